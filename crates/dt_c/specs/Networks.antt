@@ -1,9 +1,9 @@
 -- A network as C gives it, and the parameters that suit it.
 use Rattle.std.specs.Prelude.{◌≡◌, ℕ, nat_le, Bool, true, false, ◌&&◌, ◌==◌, Option, Some, None}
 use Rattle.dt_units.specs.declared.parameters.Params.{Params}
-use Rattle.dt_suited.specs.declared.networks.Network.{Network}
-use Rattle.dt_suited.specs.declared.suiting.Suited.{Suited}
-use Rattle.dt_suited.specs.Networks.{Suits, is_network}
+use Rattle.dt_params.specs.declared.networks.Network.{Network}
+use Rattle.dt_params.specs.declared.computing.NetworkParams.{NetworkParams}
+use Rattle.dt_params.specs.Networks.{AreParametersOf, is_network}
 use Rattle.dt_c.specs.declared.c_structs.CParams.{CParams}
 use Rattle.dt_c.specs.declared.networks.CNetwork.{CNetwork}
 use Rattle.dt_c.specs.CStructs.{invalid, none, ok, params_size}
@@ -22,12 +22,12 @@ c_params p out = record { size = out.size; mpl = p.mpl; r = p.r; a = p.a; rto = 
 abbrev pub is_fit_network : CNetwork → CParams → Bool
 is_fit_network w out = (w.size == network_size) && (nat_le params_size out.size && is_network (network_of w))
 
-abbrev pub FillsParams : Option Suited → (status : ℕ) → (old new : CParams) → (charge charged : ℕ) → Type 0
+abbrev pub FillsParams : Option NetworkParams → (status : ℕ) → (old new : CParams) → (charge charged : ℕ) → Type 0
 FillsParams (Some s) status old new charge charged = (status ≡ ok) × (new ≡ c_params s.params old) × (charged ≡ s.charge)
 FillsParams None status old new charge charged = (status ≡ none) × (new ≡ old) × (charged ≡ charge)
 
 abbrev pub ParamsForFit : Bool → (status : ℕ) → CNetwork → (old new : CParams) → (charge charged : ℕ) → Type 0
-ParamsForFit true status w old new charge charged = (answer : Option Suited) × Suits answer (network_of w) × FillsParams answer status old new charge charged
+ParamsForFit true status w old new charge charged = (answer : Option NetworkParams) × AreParametersOf answer (network_of w) × FillsParams answer status old new charge charged
 ParamsForFit false status w old new charge charged = (status ≡ invalid) × (new ≡ old) × (charged ≡ charge)
 
 abbrev pub ParamsFor : (status : ℕ) → CNetwork → (old new : CParams) → (charge charged : ℕ) → Type 0

@@ -3,7 +3,7 @@ ghost use Rattle.std.specs.Prelude.{◌≡◌};
 ghost use Rattle.dt_c.specs.Networks.{ParamsFor, c_params, network_of};
 
 use crate::c_structs::{CParams, INVALID, NONE, OK, PARAMS_SIZE, has_room};
-use dt_suited::{Network, suited_to};
+use dt_params::{Network, parameters_of};
 use dt_units::Params;
 use std::mem::size_of;
 
@@ -74,10 +74,10 @@ pub fn params_for(network: &CNetwork, out: &mut CParams, charge: &mut u32) -> u8
     if !network.is_network() {
         return INVALID;
     }
-    let Some(suited) = suited_to(&network) else {
+    let Some(found) = parameters_of(&network) else {
         return NONE;
     };
-    fill_params(out, &suited.params);
-    *charge = suited.charge;
+    fill_params(out, &found.params);
+    *charge = found.charge;
     OK
 }

@@ -1,12 +1,12 @@
 ghost use Rattle.std.specs.Prelude.{◌≡◌, ◌≤◌};
-ghost use Rattle.dt_suited.specs.Networks.{IsNetwork, Suits, params_of, retry_span};
+ghost use Rattle.dt_params.specs.Networks.{IsNetwork, AreParametersOf, params_of, retry_span};
 
 use crate::networks::{DAY, Network};
 use dt_units::Params;
 
 /// The parameters that suit a network, and the charge of each of its links.
 #[derive(Clone, Copy, Debug)]
-pub struct Suited {
+pub struct NetworkParams {
     pub params: Params,
     /// In milliseconds.
     pub charge: u32,
@@ -43,8 +43,8 @@ fn params_of(network: &Network, span: u64, mpl: u64) -> Params
 ///
 /// `mpl` is the least life of a packet that pays for the longest path. The cost is a few steps for usual
 /// clocks, and at most one for each millisecond of a day.
-pub fn suited_to(network: &Network) -> Option<Suited>
-    ensures { Suits result network.now }
+pub fn parameters_of(network: &Network) -> Option<NetworkParams>
+    ensures { AreParametersOf result network.now }
 {
     if !network.is_network() {
         return None;
@@ -56,7 +56,7 @@ pub fn suited_to(network: &Network) -> Option<Suited>
     let mpl = network.least_life(span)?;
     let params = params_of(network, span, mpl);
     params.check().ok()?;
-    Some(Suited {
+    Some(NetworkParams {
         params,
         charge: network.charge(span, mpl) as u32,
     })

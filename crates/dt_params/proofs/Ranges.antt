@@ -1,7 +1,7 @@
 -- A network whose numbers were tested has each in its range.
 use Rattle.std.proofs.Common.{◌≡◌, Bool, true, false, arith, refl}
-use Rattle.dt_suited.specs.declared.networks.Network.{Network}
-use Rattle.dt_suited.specs.Networks.{IsNetwork, IsNetworkIf, has_counts, has_sizes, has_times, is_network}
+use Rattle.dt_params.specs.declared.networks.Network.{Network}
+use Rattle.dt_params.specs.Networks.{IsNetwork, IsNetworkIf, has_counts, has_sizes, has_times, is_network}
 
 pub ranges : (n : Network) → is_network n ≡ true → IsNetwork n
 ranges n told = record {

@@ -2,8 +2,8 @@
 use Rattle.std.specs.Prelude.{◌≡◌, ◌⊎◌, ℕ, ◌+◌, ◌-◌, ◌*◌, ◌/◌, ◌≤◌, ◌<◌, min, max, Bool, true, false, ◌&&◌, nat_le, Option, Some, None, IsSome}
 use Rattle.dt_units.specs.declared.parameters.Params.{Params}
 use Rattle.dt_units.specs.Limits.{Between, IsWithinLimits, day, first_out_of_range, is_between}
-use Rattle.dt_suited.specs.declared.networks.Network.{Network}
-use Rattle.dt_suited.specs.declared.suiting.Suited.{Suited}
+use Rattle.dt_params.specs.declared.networks.Network.{Network}
+use Rattle.dt_params.specs.declared.computing.NetworkParams.{NetworkParams}
 
 -- how many parts there are at least, where the last one may be smaller
 abbrev pub ceil : (whole part : ℕ) → ℕ
@@ -95,13 +95,13 @@ params_of n mpl = record {
 -- WHAT SUITS: parameters in their ranges, with the least life that is long enough, and the charge of each link. There is nothing that suits where
 -- a number of the network is out of its range, where a packet would live, or a segment be sent again, for longer than a day, or where another
 -- parameter would be out of its range
-pub record AreSuited (s : Suited) (n : Network) : Type 0 where
+pub record AreSuited (s : NetworkParams) (n : Network) : Type 0 where
   pub network : IsNetwork n
   pub life : IsLeast n s.params.mpl
   pub params : s.params ≡ params_of n s.params.mpl
   pub within : IsWithinLimits s.params
   pub charge : s.charge ≡ charge_of n s.params.mpl
 
-abbrev pub Suits : Option Suited → Network → Type 0
-Suits (Some s) n = AreSuited s n
-Suits None n = (is_network n ≡ false) ⊎ (day < retry_span n) ⊎ IsLeastLife None n ⊎ ((mpl : ℕ) × IsLeast n mpl × IsSome (first_out_of_range (params_of n mpl)))
+abbrev pub AreParametersOf : Option NetworkParams → Network → Type 0
+AreParametersOf (Some s) n = AreSuited s n
+AreParametersOf None n = (is_network n ≡ false) ⊎ (day < retry_span n) ⊎ IsLeastLife None n ⊎ ((mpl : ℕ) × IsLeast n mpl × IsSome (first_out_of_range (params_of n mpl)))

@@ -2,8 +2,8 @@
 use Rattle.std.proofs.Common.{◌≡◌, ◌≤◌, ◌<◌, ◌+◌, ◌*◌, ◌⊎◌, inl, inr, ℕ, arith}
 use Rattle.std.proofs.Math.Nat.{mul-le-mul_left}
 use Rattle.std.proofs.lemmas.Bool.{cases_lt}
-use Rattle.dt_suited.specs.declared.networks.Network.{Network}
-use Rattle.dt_suited.specs.Networks.{ceil, charge_of, life_of, spacing_of}
+use Rattle.dt_params.specs.declared.networks.Network.{Network}
+use Rattle.dt_params.specs.Networks.{ceil, charge_of, life_of, spacing_of}
 
 charge_grows : (n : Network) (m k : ℕ) → m ≤ k → charge_of n m ≤ charge_of n k
 charge_grows n m k more =

@@ -1,6 +1,6 @@
 use Rattle.std.proofs.Common.{arith}
-use Rattle.dt_suited.proofs.Lives.{short}
-use Rattle.dt_suited.proofs.networks.Network.least_life.Goals as goal
+use Rattle.dt_params.proofs.Lives.{short}
+use Rattle.dt_params.proofs.networks.Network.least_life.Goals as goal
 
 -- a life of a day doesn't pay for the path, and so no shorter one does
 pub returns-then-life-gt-DAY : goal.returns-then-life-gt-DAY

@@ -1,8 +1,8 @@
 //! The parameters that suit a network: what its links, its clocks and a usual round trip ask for.
 #![tactic(auto)]
 
+mod computing;
 mod networks;
-mod suiting;
 
+pub use computing::{NetworkParams, parameters_of};
 pub use networks::Network;
-pub use suiting::{Suited, suited_to};

@@ -1,5 +1,5 @@
 ghost use Rattle.std.specs.Prelude.{◌≡◌, ◌*◌, ◌≤◌, ◌<◌, ◌^◌};
-ghost use Rattle.dt_suited.specs.Networks.{IsLeastLife, IsNetwork, IsNetworkIf, ack_delay, ceil, charge_of, has_counts, has_sizes, has_times, is_network, life_of, retry_span, retry_time, segment_size};
+ghost use Rattle.dt_params.specs.Networks.{IsLeastLife, IsNetwork, IsNetworkIf, ack_delay, ceil, charge_of, has_counts, has_sizes, has_times, is_network, life_of, retry_span, retry_time, segment_size};
 
 /// A network, and what is wanted of it.
 #[derive(Clone, Copy, Debug)]
