@@ -364,7 +364,6 @@ class Event(ctypes.Structure):
         ("kind", ctypes.c_uint8),
         ("cause", ctypes.c_uint8),
         ("call", ctypes.c_uint64),
-        ("user", ctypes.c_uint64),
         ("len", ctypes.c_size_t),
         ("flow", Flow),
     ]
@@ -577,7 +576,6 @@ FUNCTIONS: dict[str, tuple[object, list[object]]] = {
             ctypes.c_void_p,
             ctypes.c_size_t,
             ctypes.c_uint32,
-            ctypes.c_uint64,
         ],
     ),
     "dt_service_reply": (

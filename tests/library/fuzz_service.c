@@ -77,7 +77,6 @@ static struct call *call_of(const struct dt_flow *flow, uint64_t number) {
 }
 
 /* what the program hands over with a call, and gets back with its end */
-static uint64_t user_of(const struct call *it) { return (uint64_t)(it - calls) * 0x9E3779B97F4A7C15u; }
 
 /* a call of this opening of a node */
 static struct call *own_call(const struct node *n, uint64_t number) {
@@ -106,7 +105,7 @@ static size_t tokens(const struct node *n, const struct dt_flow *flow) {
 
 static void is_handed_out(struct node *n, const struct dt_event *it, const uint8_t *octets) {
     struct call *call = call_of(&it->flow, it->call);
-    WANT(it->flow.target == name_of(n) && it->flow.source != it->flow.target && it->cause == 0 && it->user == 0);
+    WANT(it->flow.target == name_of(n) && it->flow.source != it->flow.target && it->cause == 0);
     if (!keeps_duties) {
         /* a payload that was changed may have the name of any call */
         if (call != NULL) call->was_handed_out = call->is_token = true, call->served_by = n->openings;
@@ -122,7 +121,7 @@ static void is_handed_out(struct node *n, const struct dt_event *it, const uint8
 
 static void is_answered(struct node *n, const struct dt_event *it, const uint8_t *octets) {
     struct call *call = own_call(n, it->call);
-    WANT(call != NULL && call->fate == WAITS && is_no_flow(&it->flow) && it->cause == 0 && it->user == user_of(call));
+    WANT(call != NULL && call->fate == WAITS && is_no_flow(&it->flow) && it->cause == 0);
     call->fate = ANSWERED;
     if (!keeps_duties) return;
     WANT(call->was_replied && call->reply_len == it->len);
@@ -131,7 +130,7 @@ static void is_answered(struct node *n, const struct dt_event *it, const uint8_t
 
 static void is_unsure(struct node *n, const struct dt_event *it) {
     struct call *call = own_call(n, it->call);
-    WANT(call != NULL && call->fate == WAITS && is_no_flow(&it->flow) && it->len == 0 && it->user == user_of(call));
+    WANT(call != NULL && call->fate == WAITS && is_no_flow(&it->flow) && it->len == 0);
     WANT(it->cause == DT_CAUSE_GIVEN_UP || it->cause == DT_CAUSE_TIMEOUT || it->cause == DT_CAUSE_STOPPED);
     if (it->cause == DT_CAUSE_TIMEOUT) WANT(n->judged >= call->due);
     WANT((it->cause == DT_CAUSE_STOPPED) <= n->is_spent);
@@ -151,18 +150,18 @@ static bool takes_event(struct node *n) {
     }
     free(small);
     WANT(status == DT_OK || (status == DT_BUFFER_TOO_SMALL && one.len >= 1 && one.len <= DT_MAX_PAYLOAD));
-    WANT(status == DT_OK || (one.kind == 0 && one.call == 0 && one.user == 0 && is_no_flow(&one.flow)));
+    WANT(status == DT_OK || (one.kind == 0 && one.call == 0 && is_no_flow(&one.flow)));
     size_t len = one.len;
     uint8_t *octets = block(len + BEHIND), *twin = block(len);
     memset(octets, 0xEE, len + BEHIND);
     if (status != DT_OK) WANT(dt_service_next_event(n->handle[0], octets, len + BEHIND, &one) == DT_OK);
     WANT(dt_service_next_event(n->handle[1], twin, len, &other) == DT_OK && one.len == len && other.len == len && is_same(octets, twin, len));
-    WANT(one.call == other.call && one.kind == other.kind && one.cause == other.cause && one.user == other.user && is_flow(&one.flow, &other.flow));
+    WANT(one.call == other.call && one.kind == other.kind && one.cause == other.cause && is_flow(&one.flow, &other.flow));
     for (size_t i = len; i < len + BEHIND; i++) WANT(octets[i] == 0xEE);
     happens(one.kind * 4u + one.cause);
     if (one.kind == DT_EVENT_REQUEST) is_handed_out(n, &one, octets);
     else if (one.kind == DT_EVENT_ANSWERED) is_answered(n, &one, octets);
-    else if (one.kind == DT_EVENT_REPLY_UNCERTAIN) WANT(one.flow.target == name_of(n) && one.flow.source != one.flow.target && one.call == 0 && one.user == 0 && one.len == 0);
+    else if (one.kind == DT_EVENT_REPLY_UNCERTAIN) WANT(one.flow.target == name_of(n) && one.flow.source != one.flow.target && one.call == 0 && one.len == 0);
     else {
         WANT(one.kind == DT_EVENT_UNSURE);
         is_unsure(n, &one);
@@ -304,7 +303,7 @@ static void makes_call(struct node *n, const struct dt_flow *flow, size_t len, u
     uint64_t moment = moment_of(n);
     uint8_t *payload = block(len);
     for (size_t i = 0; i < len; i++) payload[i] = asked_octet(call_count, i);
-#define CALL(side) dt_service_call(side, moment, flow, payload, len, timeout, user_of(&calls[call_count]))
+#define CALL(side) dt_service_call(side, moment, flow, payload, len, timeout)
     struct dt_call_result one, other = {0, 0, 0, 0, 0};
     BOTH(CALL, one, other, FIELD)
 #undef CALL

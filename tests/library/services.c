@@ -108,22 +108,20 @@ static bool carry(dt_service *from, dt_service *to, uint64_t now) {
     }
 }
 
-/* `user` is the number of the call in its life, as all calls here have it */
 static bool is_unsure(dt_service *s, uint64_t call, uint8_t cause) {
     struct next it = next(s);
-    return it.event.kind == DT_EVENT_UNSURE && it.event.call == call && it.event.user == (uint32_t)call && it.event.cause == cause && carries(&it, came, 0);
+    return it.event.kind == DT_EVENT_UNSURE && it.event.call == call && it.event.cause == cause && carries(&it, came, 0);
 }
 
-/* A call whose `user` is `count`, its number in its life. */
-static struct dt_call_result calls(dt_service *s, uint64_t now, size_t len, uint32_t timeout, uint64_t count) {
-    return dt_service_call(s, now, &flow, payload, len, timeout, count);
+static struct dt_call_result calls(dt_service *s, uint64_t now, size_t len, uint32_t timeout) {
+    return dt_service_call(s, now, &flow, payload, len, timeout);
 }
 
 static void a_closed_handle_says_so(dt_service *s) {
     SIZED(dt_node_counts, counts);
     SIZED(dt_call_counts, dropped);
     WANT(dt_service_tick(s, 0) == DT_NOT_OPEN && dt_service_set_port(s, 10, DT_PORT_CALLER) == DT_NOT_OPEN);
-    WANT(calls(s, 0, 1, 9, 0).status == DT_NOT_OPEN && next(s).status == DT_NOT_OPEN);
+    WANT(calls(s, 0, 1, 9).status == DT_NOT_OPEN && next(s).status == DT_NOT_OPEN);
     WANT(dt_service_get_call_counts(s, &dropped) == DT_NOT_OPEN && dt_service_get_counts(s, &counts) == DT_NOT_OPEN);
     WANT(dt_service_set_life(s, 6) == DT_NOT_OPEN && dt_service_stop(s) == DT_NOT_OPEN && dt_service_wake(s) == DT_NEVER);
 }
@@ -138,7 +136,7 @@ static uint64_t both_open(dt_service *client, dt_service *server) {
     WANT(opens(client, 1, true) == DT_OK && opens(client, 1, false) == DT_EXISTS && opens(server, 2, false) == DT_OK);
     ports(client);
     ports(server);
-    struct dt_call_result made = calls(client, 100, 1, 300, 0);
+    struct dt_call_result made = calls(client, 100, 1, 300);
     WANT(made.status == DT_QUIET && made.quiet_until == 100 + dt_params_quiet_ms(&params) && made.call == 0);
     return made.quiet_until;
 }
@@ -147,17 +145,17 @@ static uint64_t both_open(dt_service *client, dt_service *server) {
 static void calls_are_made_or_declined(dt_service *client, uint64_t now) {
     const uint64_t first = (uint64_t)5 << 32;
     const struct dt_flow back = {2, 1, 20, 10}, plain = {1, 2, 11, 20};
-    WANT(dt_service_call(client, now, &back, payload, 1, 9, 0).invalid == DT_INVALID_FLOW);
-    WANT(dt_service_call(client, now, &plain, payload, 1, 9, 0).invalid == DT_INVALID_PORT);
-    WANT(dt_service_call(client, now, &flow, frame, 4089, 9, 0).invalid == DT_INVALID_LENGTH);
-    struct dt_call_result made = calls(client, now, 1, 0, 0);
+    WANT(dt_service_call(client, now, &back, payload, 1, 9).invalid == DT_INVALID_FLOW);
+    WANT(dt_service_call(client, now, &plain, payload, 1, 9).invalid == DT_INVALID_PORT);
+    WANT(dt_service_call(client, now, &flow, frame, 4089, 9).invalid == DT_INVALID_LENGTH);
+    struct dt_call_result made = calls(client, now, 1, 0);
     WANT(made.status == DT_INVALID && made.invalid == DT_INVALID_TIMEOUT);
-    made = calls(client, now, MOST, 3000, 0);
+    made = calls(client, now, MOST, 3000);
     WANT(made.status == DT_OK && made.call == first);
-    made = calls(client, now, MOST, 3000, 1);
+    made = calls(client, now, MOST, 3000);
     WANT(made.status == DT_FULL && made.free == 4096 - 8 - MOST);
-    WANT(calls(client, now, 1, 300, 1).status == DT_OK);
-    WANT(calls(client, now, 1, 300, 2).status == DT_TOO_MANY_CALLS);
+    WANT(calls(client, now, 1, 300).status == DT_OK);
+    WANT(calls(client, now, 1, 300).status == DT_TOO_MANY_CALLS);
 }
 
 /* The first request is answered, and the second one is forgotten. */
@@ -168,7 +166,7 @@ static void requests_are_served(dt_service *server, uint64_t now) {
     event.size--;
     WANT(dt_service_next_event(server, came, MOST, &event) == DT_INVALID);
     struct next it = next(server);
-    WANT(it.event.kind == DT_EVENT_REQUEST && it.event.call == token.call && it.event.user == 0 && carries(&it, payload, MOST));
+    WANT(it.event.kind == DT_EVENT_REQUEST && it.event.call == token.call && carries(&it, payload, MOST));
     WANT(it.event.flow.source == 1 && it.event.flow.target_port == 20);
     WANT(dt_service_reply(server, now, &token, frame, 4089).invalid == DT_INVALID_LENGTH);
     WANT(dt_service_reply(server, now, &token, payload, 7).status == DT_OK && dt_service_reply(server, now, &token, payload, 7).status == DT_GONE);
@@ -183,10 +181,10 @@ static void a_stop_ends_calls(dt_service *client, uint64_t now) {
     SIZED(dt_node_counts, counts);
     SIZED(dt_call_counts, dropped);
     WANT(dt_service_set_life(client, 5) == DT_EXISTS && dt_service_set_life(client, 6) == DT_OK);
-    struct dt_call_result made = calls(client, now, 1, 300, 0);
+    struct dt_call_result made = calls(client, now, 1, 300);
     WANT(made.call == (uint64_t)6 << 32 && dt_service_set_life(client, 6) == DT_EXISTS && dt_service_stop(client) == DT_OK);
     WANT(is_unsure(client, made.call, DT_CAUSE_STOPPED) && next(client).status == DT_NONE);
-    WANT(dt_service_tick(client, now) == DT_STOPPED && calls(client, now, 1, 9, 0).status == DT_STOPPED);
+    WANT(dt_service_tick(client, now) == DT_STOPPED && calls(client, now, 1, 9).status == DT_STOPPED);
     WANT(dt_service_get_call_counts(client, &dropped) == DT_OK && memcmp(&dropped, &none, sizeof none) == 0);
     WANT(dt_service_get_counts(client, &counts) == DT_OK && counts.datagrams_refused == 0);
     WANT(dt_service_get_blocked_counts(client).closed_port == 0 && dt_service_wake(client) == DT_NEVER);
@@ -203,7 +201,7 @@ static void answers(dt_service *client, dt_service *server) {
     requests_are_served(server, now);
     WANT(!carry(server, client, now));
     struct next it = next(client);
-    WANT(it.event.kind == DT_EVENT_ANSWERED && it.event.call == first && it.event.user == 0 && carries(&it, payload, 7));
+    WANT(it.event.kind == DT_EVENT_ANSWERED && it.event.call == first && carries(&it, payload, 7));
     WANT(next(client).status == DT_NONE && dt_service_wake(client) <= now + 300);
     WANT(dt_service_tick(client, now + 299) == DT_OK && next(client).status == DT_NONE);
     WANT(dt_service_tick(client, now + 300) == DT_OK && is_unsure(client, first + 1, DT_CAUSE_TIMEOUT));
@@ -223,7 +221,7 @@ static void replies_are_uncertain(dt_service *client, dt_service *server) {
     WANT(opens(client, 1, false) == DT_OK && opens(server, 2, false) == DT_OK);
     ports(client);
     ports(server);
-    for (unsigned i = 0; i < 2; i++) WANT(calls(client, now, 1, 60000, i).status == DT_OK);
+    for (unsigned i = 0; i < 2; i++) WANT(calls(client, now, 1, 60000).status == DT_OK);
     WANT(!carry(client, server, now));
     while ((it = next(server)).status == DT_OK) {
         struct dt_token token = {it.event.call, it.event.flow};
@@ -234,7 +232,7 @@ static void replies_are_uncertain(dt_service *client, dt_service *server) {
         lose(server);
     }
     it = next(server);
-    WANT(it.event.kind == DT_EVENT_REPLY_UNCERTAIN && it.event.call == 0 && it.event.cause == 0 && it.event.user == 0 && carries(&it, came, 0));
+    WANT(it.event.kind == DT_EVENT_REPLY_UNCERTAIN && it.event.call == 0 && it.event.cause == 0 && carries(&it, came, 0));
     WANT(it.event.flow.source == 1 && it.event.flow.target == 2 && it.event.flow.source_port == 10 && it.event.flow.target_port == 20);
     WANT(next(server).status == DT_NONE && dt_service_tick(server, now) == DT_OK && next(server).status == DT_NONE);
     WANT(dt_service_stop(client) == DT_OK && dt_service_stop(server) == DT_OK);
@@ -246,7 +244,7 @@ static void ends(dt_service *s, bool *has_end, unsigned made, bool broke) {
     while ((it = next(s)).status == DT_OK) {
         if (it.event.kind == DT_EVENT_REQUEST || it.event.kind == DT_EVENT_REPLY_UNCERTAIN) continue;
         uint32_t count = (uint32_t)it.event.call;
-        WANT(count < made + broke && !has_end[count] && it.event.user == count);
+        WANT(count < made + broke && !has_end[count]);
         has_end[count] = true;
     }
     WANT(it.status == DT_NONE);
@@ -277,7 +275,7 @@ static bool exchange_fails(dt_service *client, dt_service *server) {
     ports(server);
     bool fails = false;
     for (uint64_t now = 100; now < 3000 && !fails; now += 100) {
-        dt_status status = made < CALLS ? calls(client, now, 500, 900, made).status : (dt_status)DT_TOO_MANY_CALLS;
+        dt_status status = made < CALLS ? calls(client, now, 500, 900).status : (dt_status)DT_TOO_MANY_CALLS;
         WANT(status == DT_OK || status == DT_TOO_MANY_CALLS || status == DT_NO_MEMORY);
         made += status == DT_OK;
         fails = status == DT_NO_MEMORY || carry(client, server, now);

@@ -47,7 +47,7 @@ abbrev pub service_options_size : ℕ
 service_options_size = 20
 
 abbrev pub event_size : ℕ
-event_size = 48
+event_size = 40
 
 abbrev pub call_counts_size : ℕ
 call_counts_size = 64
@@ -122,7 +122,7 @@ cause_number cause.Patience = 2
 cause_number cause.Closed = 3
 
 abbrev pub event_with : (kind cause : ℕ) → CallNumber → CFlow → (len : ℕ) → Event
-event_with kind cause number flow len = record { size = 0; kind = kind; cause = cause; call = number_of number; user = 0; len = len; flow = flow }
+event_with kind cause number flow len = record { size = 0; kind = kind; cause = cause; call = number_of number; len = len; flow = flow }
 
 abbrev pub event : Happening → Event
 event (Request token payload) = event_with 1 0 token.number (c_flow token.flow) (length payload)
@@ -136,7 +136,7 @@ event_in happening out = record (event happening) { size = out.size }
 
 -- so many octets want room
 abbrev pub event_without_room : (len : ℕ) → Event → Event
-event_without_room len out = record { size = out.size; kind = 0; cause = 0; call = 0; user = 0; len = len; flow = no_flow }
+event_without_room len out = record { size = out.size; kind = 0; cause = 0; call = 0; len = len; flow = no_flow }
 
 -- HOW MANY MESSAGES WERE DROPPED
 abbrev pub call_counts : CallCounts → CCallCounts → CCallCounts

@@ -77,7 +77,6 @@ pub struct Event {
     pub kind: u8,
     pub cause: u8,
     pub call: u64,
-    pub user: u64,
     pub len: usize,
     pub flow: CFlow,
 }
@@ -100,7 +99,7 @@ pub struct CCallCounts {
 /// How many octets a struct has that says its own size.
 pub const SERVICE_OPTIONS_SIZE: u32 = 20;
 
-pub const EVENT_SIZE: u32 = 48;
+pub const EVENT_SIZE: u32 = 40;
 
 pub const CALL_COUNTS_SIZE: u32 = 64;
 
@@ -288,7 +287,6 @@ fn event_with(kind: u8, cause: u8, number: CallNumber, flow: CFlow, len: usize) 
         kind,
         cause,
         call: in_one(number),
-        user: 0,
         len,
         flow,
     }
@@ -345,7 +343,6 @@ pub fn fill_event_without_room(out: &mut Event, len: usize)
     out.kind = 0;
     out.cause = 0;
     out.call = 0;
-    out.user = 0;
     out.len = len;
     out.flow = no_flow();
 }

@@ -154,9 +154,9 @@ pub const DT_INVALID_TOTAL: u8 = 5;
 // `enum dt_event_kind`
 /// answer it: `call`, `flow`, and `len` octets of payload
 pub const DT_EVENT_REQUEST: u8 = 1;
-/// your call ended with `len` octets of answer: `call`, `user`
+/// your call ended with `len` octets of answer: `call`
 pub const DT_EVENT_ANSWERED: u8 = 2;
-/// it ended without: it was served once or not at all, or still will be: `call`, `user`, `cause`
+/// it ended without: it was served once or not at all, or still will be: `call`, `cause`
 pub const DT_EVENT_UNSURE: u8 = 3;
 /// replies to requests of `flow` were given up: each was delivered once or not at all, and its caller gets no
 /// report. Reported again for this flow only after this event was taken
@@ -807,8 +807,6 @@ pub struct dt_event {
     /// enum dt_cause, else 0
     pub cause: u8,
     pub call: u64,
-    /// what you passed to dt_service_call; 0 for a request
-    pub user: u64,
     pub len: usize,
     /// of a request, or of the requests of uncertain replies; else 0
     pub flow: dt_flow,
@@ -822,7 +820,6 @@ impl dt_event {
             kind: 0,
             cause: 0,
             call: 0,
-            user: 0,
             len: 0,
             flow: dt_flow::new(),
         }
@@ -1212,7 +1209,7 @@ extern "C" {
     /// - `DT_EXISTS`: the port has a kind
     pub fn dt_service_set_port(service: *mut dt_service, port: u16, kind: u8) -> dt_status;
 
-    /// Makes a call on a flow from a caller's port. It ends, by an event with `user`, in the first call with a
+    /// Makes a call on a flow from a caller's port. It ends, by an event with its number, in the first call with a
     /// `now` of `timeout_ms` or more after this one, at the latest.
     ///
     /// - `DT_OK`: `call` is its number
@@ -1232,7 +1229,6 @@ extern "C" {
         payload: *const u8,
         len: usize,
         timeout_ms: u32,
-        user: u64,
     ) -> dt_call_result;
 
     /// Replies to a request, once.
