@@ -14,6 +14,9 @@ It refuses, each with page and line:
 - a count of the files that have a row for each written or read line, where the sources have other files;
 - a list of docs/headline.md that differs from the definitions that its sentences rest on;
 - a file of a crate that says nothing of itself, so that docs/files.py would list it without a word;
+- a copy of the header that differs from what release/interface.py makes of it, and exports of crates/dt_c that differ from it;
+- a public name of the library, in C, Python or Rust, that the table of words of docs/library.md doesn't have, or has twice;
+  and a name of that table that nothing has;
 - a script that can't be run as the pages say, since it isn't executable;
 - a must-fail edit whose text doesn't stand once in its file: the `rt ci` of some kits counts it for nothing, and passes;
 - two edits of a crate, or a planted bug without a name;
@@ -22,7 +25,7 @@ It refuses, each with page and line:
 
 Usage: docs/check.py            compares
        docs/check.py write      writes the "stands on" column, the files that a new line costs, docs/clauses.md and the
-                                lists of docs/headline.md anew
+                                lists of docs/headline.md anew; release/interface.py write does the copies of the header
 """
 
 import os
@@ -34,6 +37,9 @@ from typing import Iterator, NamedTuple
 
 import files as headings
 import headline
+
+sys.path.insert(0, str(Path(__file__).resolve().parent.parent / "release"))
+import interface  # noqa: E402
 
 TOP = Path(__file__).resolve().parent.parent
 PAGES = sorted([TOP / "README.md", TOP / "conformance" / "README.md", *(TOP / "docs").glob("*.md")])
@@ -635,6 +641,67 @@ def check_headline() -> Iterator[Complaint]:
         yield Complaint(headline.PAGE, 1, "it lists other definitions, or other lines of them")
 
 
+# --- the interface of the library, and its words
+
+
+LIBRARY = TOP / "docs" / "library.md"
+WORDS = "## Words\n"
+
+
+def words_of(column: int) -> dict[str, int]:
+    """The names in backticks of a column of the table of words, and the line of each. One that stands twice has line 0."""
+    found: dict[str, int] = {}
+    lines = text_of(LIBRARY).splitlines()
+    begins = lines.index(WORDS.strip())
+    for number, line in enumerate(lines[begins:], begins + 1):
+        if line.startswith("## ") and number > begins + 1:
+            break
+        if line.startswith("| ") and (cells := [it.strip() for it in line.strip("|").split("|")])[0] != "word":
+            for name in re.findall(r"`([^`]+)`", cells[column]):
+                found[name] = 0 if name in found else number
+    return found
+
+
+def names_in_c() -> set[str]:
+    """Functions, types, enums and constants of the header. What an enum has follows from its name."""
+    it = interface.header()
+    parts = (it.functions, it.structs, it.enums, it.constants)
+    # (results are those of their functions, and need no word)
+    return {one.name for part in parts for one in part} | set(it.opaque) | set(re.findall(r"#define (DT_\w+)\(", text_of(interface.HEADER)))
+
+
+def names_in_python() -> set[str]:
+    """What the modules hand out, once they stand on the tables that are made from the header."""
+    found: set[str] = set()
+    for path in sorted((TOP / "bindings" / "python").rglob("*.py")):
+        listed = re.search(r"^__all__ = \[(.*?)\]", text_of(path), re.DOTALL | re.MULTILINE)
+        found |= set(re.findall(r"\"(\w+)\"", listed[1])) if listed else set()
+    is_new = any("_deltat_c" in text_of(it) for it in (TOP / "bindings" / "python").rglob("deltat*.py"))
+    return found if is_new else set()
+
+
+def names_in_rust() -> set[str]:
+    """What the crate hands out."""
+    path = TOP / "bindings" / "rust" / "deltat" / "src" / "lib.rs"
+    text = text_of(path) if path.is_file() else ""
+    listed = re.findall(r"^pub use [\w:]+?::(?:\{([^}]*)\}|(\w+));", text, re.MULTILINE)
+    return {name for pair in listed for name in re.findall(r"\w+", " ".join(pair))} | set(re.findall(r"^pub fn (\w+)", text, re.MULTILINE))
+
+
+def check_interface() -> Iterator[Complaint]:
+    for path, what in interface.differences():
+        yield Complaint(path, 1, what)
+    for column, language, names in ((2, "C", names_in_c()), (3, "Python", names_in_python()), (4, "Rust", names_in_rust())):
+        listed = words_of(column)
+        for name in sorted(names - listed.keys()) if names else ():
+            yield Complaint(LIBRARY, 1, f"the table of words hasn't {name}, a name in {language}")
+        for name, line in listed.items() if names else ():
+            if name not in names:
+                yield Complaint(LIBRARY, line, f"{language} has no {name}")
+            elif line == 0:
+                yield Complaint(LIBRARY, 1, f"the table of words has {name} twice")
+
+
 def complaints() -> Iterator[Complaint]:
     for page in PAGES:
         yield from check_links(page)
@@ -651,6 +718,7 @@ def complaints() -> Iterator[Complaint]:
     yield from check_refusals()
     yield from check_headline()
     yield from check_scripts()
+    yield from check_interface()
 
 
 def main(words: list[str]) -> int:

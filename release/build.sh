@@ -117,16 +117,19 @@ install -m 644 "$top/release/overrides" "$root/usr/share/lintian/overrides/delta
 
 sed -e "s/@VERSION@/$version/" -e "s/@DATE@/$date/" "$top/release/deltat.1" >"$room/deltat.1"
 if [ -f "$libraries/libdeltat.so.2" ]; then
-    mkdir -p "$root/usr/include" "$root/usr/lib/$triplet/pkgconfig" "$root/usr/lib/python3/dist-packages" "$root/usr/share/man/man3" "$doc/include"
-    make -s -C "$top/lib" deltat.pc PREFIX=/usr LIBDIR="/usr/lib/$triplet" PC="$room/deltat.pc"
+    mkdir -p "$root/usr/include" "$root/usr/lib/$triplet/pkgconfig" "$root/usr/lib/$triplet/cmake/deltat" "$root/usr/lib/python3/dist-packages" "$root/usr/share/man/man3" "$doc/include"
+    make -s -C "$top/lib" deltat.pc deltatConfig.cmake deltatConfigVersion.cmake PREFIX=/usr LIBDIR="/usr/lib/$triplet" PC="$room/deltat.pc" \
+        CMAKE="$room/deltatConfig.cmake"
     install -m 644 "$room/deltat.pc" "$root/usr/lib/$triplet/pkgconfig/deltat.pc"
-    install -m 644 "$top/include/deltat.h" "$root/usr/include/deltat.h"
+    install -m 644 "$room/deltatConfig.cmake" "$room/deltatConfigVersion.cmake" "$root/usr/lib/$triplet/cmake/deltat"
+    install -m 644 "$top/include/deltat.h" "$top/include/deltat.hpp" "$root/usr/include"
     install -m 644 "$libraries/libdeltat.a" "$libraries/libdeltat.so.2" "$root/usr/lib/$triplet"
     ln -s libdeltat.so.2 "$root/usr/lib/$triplet/libdeltat.so"
     ln -s ../../../../include/deltat.h "$doc/include/deltat.h"
-    for module in deltat deltat_record deltat_service deltat_state; do
-        install -m 644 "$top/bindings/python/$module.py" "$root/usr/lib/python3/dist-packages"
-    done
+    ln -s ../../../../include/deltat.hpp "$doc/include/deltat.hpp"
+    package=$root/usr/lib/python3/dist-packages/deltat
+    install -d "$package"
+    install -m 644 "$top"/bindings/python/deltat/*.py "$top/bindings/python/deltat/py.typed" "$package"
     python3 "$top/release/manpage.py" "$top/docs/library.md" "$version" "$date" >"$room/library.3"
     gzip -n9 <"$room/library.3" >"$root/usr/share/man/man3/libdeltat.3.gz"
     sed -i -e '$s/(5)$/(5),/' -e '$a.BR libdeltat (3)' "$room/deltat.1"

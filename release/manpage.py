@@ -4,13 +4,15 @@
 PAGE is docs/formats.md, for deltat-formats(5), or docs/library.md, for libdeltat(3). It reads what these are made of:
 headings, paragraphs, lists, tables, blocks, `words`, *stressed* words and links. A row of a table becomes an entry: the
 first cell, and below it the others, each behind its heading. Ends with 1 at a line that it doesn't know. libdeltat(3)
-has the functions of include/deltat.h, which stands beside docs/."""
+has the functions and the statuses of include/deltat.h with the header's own words, by release/interface.py."""
 import re
 import sys
 import textwrap
 from collections.abc import Iterator
 from pathlib import Path
 from typing import NamedTuple
+
+import interface
 
 
 class Manual(NamedTuple):
@@ -20,7 +22,7 @@ class Manual(NamedTuple):
     section: int
     about: str
     volume: str
-    # the header whose functions it has, and how a program is compiled
+    # the header whose functions it has, if any, and how a program is compiled
     header: str = ""
     compiled: str = ""
 
@@ -128,27 +130,47 @@ def tidy(requests: list[str]) -> Iterator[str]:
         yield it
 
 
-def synopsis(it: Manual, top: Path) -> Iterator[str]:
+def prototype(function: interface.Function) -> list[str]:
+    """The lines of a prototype. Arguments stay whole."""
+    words = re.sub(r"(?<!,) ", "\N{NO-BREAK SPACE}", function.prototype)
+    lines = textwrap.wrap(words, WIDTH - 10, subsequent_indent=" " * 4, break_on_hyphens=False)
+    return [it.replace("\N{NO-BREAK SPACE}", " ") for it in lines]
+
+
+def synopsis(it: Manual) -> Iterator[str]:
     """How a program names the header, each function, and how the program is compiled."""
-    text = re.sub(r"/\*.*?\*/", "", (top / it.header).read_text(), flags=re.DOTALL)
     yield from [".SH SYNOPSIS", f".B #include <{Path(it.header).name}>", ".PP", ".nf"]
-    for function in re.findall(r"^((?:struct )?\w+[ *]+dt_\w+\([^;{]*\);)", text, re.MULTILINE):
-        # (arguments stay whole)
-        words = re.sub(r"(?<!,) ", "\N{NO-BREAK SPACE}", " ".join(function.split()))
-        lines = textwrap.wrap(words, WIDTH - 10, subsequent_indent=" " * 4, break_on_hyphens=False)
-        yield from (f"\\fB{it}\\fR" for it in (line.replace("\N{NO-BREAK SPACE}", " ") for line in lines))
+    for function in interface.header().functions:
+        yield from (f"\\fB{line}\\fR" for line in prototype(function))
     yield from [".fi", ".PP", f".B {escaped(it.compiled)}"]
 
 
-def page(it: Manual, text: str, version: str, date: str, top: Path) -> str:
+def calls() -> Iterator[str]:
+    """What the header says of each function, and of each status."""
+    yield ".SH FUNCTIONS"
+    for function in interface.header().functions:
+        yield from [".TP", f"\\fB{function.name}\\fR()", *wrapped(spelled(function.doc.text))]
+        if function.doc.statuses:
+            yield ".RS"
+            for status in function.doc.statuses:
+                yield from [".TP", f"\\fB{status.name}\\fR", *wrapped(spelled(status.says) if status.says else "\\&")]
+            yield ".RE"
+        if function.doc.after:
+            yield from [".IP", *wrapped(spelled(function.doc.after))]
+    yield ".SH RETURN VALUES"
+    for member in interface.header().enum("dt_status_code").members:
+        yield from [".TP", f"\\fB{member.name}\\fR ({member.value})", *wrapped(spelled(member.says) if member.says else "the call did what it was asked")]
+
+
+def page(it: Manual, text: str, version: str, date: str) -> str:
     lines = text.splitlines()
     if not lines[0].startswith("# "):
         raise ValueError("the page has no heading")
     title = f".TH {escaped(it.name.upper())} {it.section} {date} \"deltat {version}\" \"{it.volume}\""
     head = [title, ".SH NAME", f"{escaped(it.name)} \\- {escaped(it.about)}"]
-    head += synopsis(it, top) if it.header else []
+    head += synopsis(it) if it.header else []
     head.append(".SH DESCRIPTION")
-    ends = [".SH SEE ALSO", ".BR deltat (1)"]
+    ends = [*(calls() if it.header else ()), ".SH SEE ALSO", ".BR deltat (1)"]
     return "\n".join(tidy([*head, *blocks(lines[1:]), *ends])) + "\n"
 
 
@@ -160,8 +182,8 @@ def main(words: list[str]) -> int:
         path = Path(words[0])
         if path.stem not in MANUALS:
             raise ValueError(f"of {path.name} no man page is made")
-        sys.stdout.write(page(MANUALS[path.stem], path.read_text(), *words[1:], path.resolve().parent.parent))
-    except (OSError, ValueError) as why:
+        sys.stdout.write(page(MANUALS[path.stem], path.read_text(), *words[1:]))
+    except (OSError, ValueError, interface.Unreadable) as why:
         print(f"manpage.py: {why}", file=sys.stderr)
         return 1
     return 0

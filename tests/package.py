@@ -120,8 +120,9 @@ def files(root: Path) -> list[Case]:
     wanted = ["usr/lib/deltat/run-node", "usr/lib/deltat/params.py", "lib/systemd/system/deltat-node@.service", "usr/share/man/man1/deltat.1.gz",
               "usr/share/man/man5/deltat-formats.5.gz", "usr/share/bash-completion/completions/deltat", "usr/share/zsh/vendor-completions/_deltat"]
     if LIBRARY.exists():
-        wanted += ["usr/include/deltat.h", "usr/lib/python3/dist-packages/deltat.py", "usr/lib/python3/dist-packages/deltat_record.py", "usr/lib/python3/dist-packages/deltat_service.py", "usr/lib/python3/dist-packages/deltat_state.py", "usr/share/man/man3/libdeltat.3.gz"]
-        wanted += [f"usr/lib/{os.uname().machine}-linux-gnu/{it}" for it in ("libdeltat.a", "libdeltat.so.2", "libdeltat.so", "pkgconfig/deltat.pc")]
+        wanted += ["usr/include/deltat.h", "usr/include/deltat.hpp", "usr/share/man/man3/libdeltat.3.gz", "usr/lib/python3/dist-packages/deltat/py.typed"]
+        wanted += [f"usr/lib/python3/dist-packages/deltat/{it.name}" for it in sorted((TOP / "bindings" / "python" / "deltat").glob("*.py"))]
+        wanted += [f"usr/lib/{os.uname().machine}-linux-gnu/{it}" for it in ("libdeltat.a", "libdeltat.so.2", "libdeltat.so", "pkgconfig/deltat.pc", "cmake/deltat/deltatConfig.cmake")]
     missing = [it for it in wanted if not (root / it).is_file()] + [it.name for it in (TOP / "docs").glob("*.md") if not (doc / "docs" / it.name).is_file()]
     missing += [it.name for it in (TOP / "examples").rglob("*") if it.is_file() and it.suffix != ".pyc" and not (doc / it.relative_to(TOP)).is_file()]
     said = (doc / "PROVED").read_text()
@@ -174,7 +175,7 @@ def manuals(root: Path) -> list[Case]:
     if LIBRARY.exists():
         page = gzip.decompress((root / "usr/share/man/man3/libdeltat.3.gz").read_bytes()).decode()
         exports = {it.split()[-1].partition("@")[0] for it in run("nm", "-D", "--defined-only", str(LIBRARY)).stdout.splitlines() if it.split()[1] == "T"}
-        cases.append(("libdeltat(3) has each function of the library", len(exports) > 10 and all(f" {it}(" in page or f"*{it}(" in page for it in exports), f"{len(exports)} functions"))
+        cases.append(("libdeltat(3) has each function of the library, and a sentence for it", len(exports) > 10 and all((f" {it}(" in page or f"*{it}(" in page) and f"\\fB{it}\\fR()" in page for it in exports), f"{len(exports)} functions"))
     return [*cases, ("deltat-formats(5) has each word of the tables of docs/formats.md", len(words) > 80 and not lost, " ".join(lost))]
 
 
