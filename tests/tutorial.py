@@ -15,6 +15,7 @@ run where the tree has it. A block is told by the words behind its fence:
 - nothing: what an `sh` before it wrote, or a file of examples/.
 - `python`: a service over the library's binding, which has to be at work still after SERVED seconds. It is run only
   where `make -C lib` has made the library, or the tree has it.
+- `rust`: an example of bindings/rust, which tests/rust.py runs.
 - `ini`: a file of release/; `conf`: an example of a file that isn't here; `example`: one of what isn't run here.
 - `usage`: the words of tools; `--help` of each has its options.
 
@@ -47,6 +48,7 @@ NOT_RUN = ("./build", "./check", "rt ci", "tests/all", "bench/all", "sudo ", "re
 # reports that come more often, or not at all, where a machine is busy
 BUSY = {"put", "resent", "replied", "ignored", "quiet", "unsent"}
 SECONDS = 120
+RUST = TOP / "bindings" / "rust" / "deltat" / "examples"
 # commands that are run only where this is there
 WANTED = {"tshark ": "tshark", "tools/sequence.py --svg ": "chromium"}
 # commands that want the library
@@ -281,6 +283,8 @@ def why_not(reader: Reader, block: Block) -> str:
         return ""
     if block.words == ["usage"]:
         return reader.misses(block)
+    if block.words == ["rust"]:
+        return "" if reader.is_a_file(block, RUST) else "no example of bindings/rust has this text"
     if block.words == ["ini"]:
         return "" if reader.is_a_file(block, reader.units) else "no file has this text"
     if block.words and not block.terminal:
