@@ -35,10 +35,10 @@ def serve() -> None:
 
 def ask(words: list[str]) -> None:
     with opened_state(1) as state, opened_udp(state) as udp:
-        udp.settle(state.silence() / 1000)
+        udp.run_for(state.silence() / 1000)
         for word in words:
             udp.send(deltat.Flow(1, 10, 2, 20), word.encode())
-        for message in udp.settle(1):
+        for message in udp.run_for(1):
             print(message.octets.decode())
 
 

@@ -49,8 +49,6 @@ if not os.path.exists(os.environ["DELTAT_LIBRARY"]):
     skip(f"{os.environ['DELTAT_LIBRARY']} isn't there: make -C lib")
 sys.path.insert(0, str(TOP / "bindings" / "python"))
 import deltat  # noqa: E402
-import deltat_record  # noqa: E402
-import deltat_service  # noqa: E402
 
 PARAMS = deltat.Params(mpl=1000, r=3000, a=200, rto=100, probe=800, seg=500, cap=65536, rcap=65536, window=65536)
 CHARGE = 90
@@ -74,49 +72,49 @@ def refused(error: type[Exception], call: object, *words: object, **named: objec
 def refusals() -> bool:
     node, flow = node_of(1, 2, False, 0), deltat.Flow(1, 10, 2, 20)
     right = [
-        refused(deltat.BadParameter, deltat.Node, 1, deltat.Params(1, 3000, 200, 500, 800, 100, 4096, 4096, 512), [], {}, again=False),
-        refused(deltat.BadParameter, deltat.Node, 1 << 32, PARAMS, [], {}, again=False),
-        refused(deltat.BadParameter, node.send, flow, b"", at=1),
-        refused(deltat.BadParameter, node.send, flow, bytes(65537), at=1),
-        refused(deltat.BadParameter, node.send, flow.reversed(), b"hello", at=1),
-        refused(deltat.BadParameter, node.send, deltat.Flow(1, 65536, 2, 20), b"hello", at=1),
-        refused(deltat.BadParameter, node.read, flow, at=1),
+        refused(deltat.InvalidArgument, deltat.Node, 1, deltat.Params(1, 3000, 200, 500, 800, 100, 4096, 4096, 512), [], {}, start=deltat.Start.FIRST),
+        refused(deltat.InvalidArgument, deltat.Node, 1 << 32, PARAMS, [], {}, start=deltat.Start.FIRST),
+        refused(deltat.InvalidArgument, node.send, flow, b"", at=1),
+        refused(deltat.InvalidArgument, node.send, flow, bytes(65537), at=1),
+        refused(deltat.InvalidArgument, node.send, flow.reversed(), b"hello", at=1),
+        refused(deltat.InvalidArgument, node.send, deltat.Flow(1, 65536, 2, 20), b"hello", at=1),
+        refused(deltat.InvalidArgument, node.read, flow, at=1),
         refused(ValueError, deltat.Flow.parse, "1:10>2"),
         deltat.Flow.parse("1:10>2:20") == flow and str(flow) == "1:10>2:20",
-        node.arrive(1, b"not a frame", at=1) is deltat.Status.BAD,
-        node.arrive(9, bytes(40), at=1) is deltat.Status.REFUSED,
-        list(node.frames()) == [] and node.wake is None,
+        node.receive(1, b"not a frame", at=1) is deltat.Status.MALFORMED,
+        node.receive(9, bytes(40), at=1) is deltat.Status.INVALID,
+        list(node.datagrams()) == [] and node.wake is None,
     ]
     node.send(flow, bytes(65536), at=2)
     right.append(refused(deltat.Full, node.send, flow, b"one more", at=2))
     late = node_of(1, 2, True, 100)
-    right.append(refused(deltat.Quiet, late.send, flow, b"too early", at=100 + PARAMS.quiet - 1))
-    late.send(flow, b"in time", at=100 + PARAMS.quiet)
-    frame = next(late.frames())
+    right.append(refused(deltat.Quiet, late.send, flow, b"too early", at=100 + PARAMS.quiet_ms - 1))
+    late.send(flow, b"in time", at=100 + PARAMS.quiet_ms)
+    frame = next(late.datagrams())
     right.append(frame.to == 2 and b"in time" in frame.octets)
-    right.append(node_of(2, 1, False, 0).arrive(1, frame.octets, waited=1000, at=5) is deltat.Status.STALE)
+    right.append(node_of(2, 1, False, 0).receive(1, frame.octets, waited=1000, at=5) is deltat.Status.EXPIRED)
     guarded = node_of(2, 1, False, 0)
     for ports, flows, status in (([21], 9, "KEPT_OUT"), ([20, 21], 0, "KEPT_OUT"), ([20], 1, "DONE"), ([20], 0, "DONE"), ([], 9, "KEPT_OUT"), (None, 0, "DONE")):
-        guarded.guard(ports, flows)
-        right.append(guarded.arrive(1, frame.octets, at=5) is deltat.Status[status])
-    right.append(guarded.kept_out() == (2, 1))
+        guarded.set_guard(ports, flows)
+        right.append(guarded.receive(1, frame.octets, at=5) is deltat.Status[status])
+    right.append(guarded.blocked_counts() == (2, 1))
     octets = b"".join(it.to_bytes(4, "big") for it in dataclasses.astuple(PARAMS))
     right += [PARAMS.fingerprint == int.from_bytes(hashlib.sha256(octets).digest()[:8], "big")]
-    right.append(refused(deltat.BadParameter, lambda: dataclasses.replace(PARAMS, mpl=1).fingerprint))
-    lonely = deltat.Node(1, PARAMS, [deltat.Link(1, CHARGE)], {}, again=False, at=0)
-    right.append(lonely.totals(flow) is None)
-    lonely.follow(flow)
+    right.append(refused(deltat.InvalidArgument, lambda: dataclasses.replace(PARAMS, mpl=1).fingerprint))
+    lonely = deltat.Node(1, PARAMS, [deltat.Link(1, CHARGE)], {}, start=deltat.Start.FIRST, at=0)
+    right.append(lonely.flow_counts(flow) is None)
+    lonely.count_flow(flow)
     lonely.send(flow, b"nowhere", at=1)
-    right.append(lonely.totals(flow) == deltat.Totals(taken=7, settled=0, uncertain=0, accepted=0, read=0))
-    right += [list(lonely.frames()) == [], refused(deltat.BadParameter, lonely.add_route, 2, 9)]
+    right.append(lonely.flow_counts(flow) == deltat.FlowCounts(taken=7, settled=0, uncertain=0, accepted=0, read=0))
+    right += [list(lonely.datagrams()) == [], refused(deltat.InvalidArgument, lonely.add_route, 2, 9)]
     lonely.add_route(2, 1)
     lonely.tick(200)
-    right += [[it.to for it in lonely.frames()] == [2], refused(deltat.BadParameter, lonely.add_route, 2, 1)]
-    right.append(lonely.counts() == deltat.Counts(came=0, refused=0, left=1, taken=7, settled=0, uncertain=0, accepted=0, read=0))
+    right += [[it.to for it in lonely.datagrams()] == [2], refused(deltat.InvalidArgument, lonely.add_route, 2, 1)]
+    right.append(lonely.counts() == deltat.NodeCounts(came=0, refused=0, left=1, taken=7, settled=0, uncertain=0, accepted=0, read=0))
     node.close()
     node.close()
-    right += [refused(deltat.Spent, node.follow, flow), refused(deltat.Spent, node.totals, flow)]
-    right += [refused(deltat.Spent, node.tick, 5), refused(deltat.Spent, node.counts), refused(deltat.Spent, node.add_route, 3, 1)]
+    right += [refused(deltat.Stopped, node.follow, flow), refused(deltat.Stopped, node.totals, flow)]
+    right += [refused(deltat.Stopped, node.tick, 5), refused(deltat.Stopped, node.counts), refused(deltat.Stopped, node.add_route, 3, 1)]
     return all(right)
 
 
@@ -124,19 +122,19 @@ def taken(nodes: list[deltat.Node], at: int, is_lost: bool = False) -> list[tupl
     """What waits at one of two nodes comes to the other, or is lost. The messages that node 2 has then, by their ports."""
     for node, other in (nodes, nodes[::-1]):
         node.tick(at)
-        for frame in node.frames():
+        for frame in node.datagrams():
             if not is_lost:
-                other.arrive(1, frame.octets, at=at)
+                other.receive(1, frame.octets, at=at)
     found = [(it.flow.source_port, it.octets, it.gap) for it in nodes[1].messages(at)]
-    for frame in nodes[1].frames():
+    for frame in nodes[1].datagrams():
         if not is_lost:
-            nodes[0].arrive(1, frame.octets, at=at)
+            nodes[0].receive(1, frame.octets, at=at)
     return found
 
 
 def whole() -> bool:
     longest = 150_000
-    nodes, flow, found = [node_of(1, 2, False, 0), deltat.Node(2, PARAMS, [deltat.Link(1, CHARGE)], {1: 1}, again=False, at=0, longest=longest)], deltat.Flow(1, 10, 2, 20), []
+    nodes, flow, found = [node_of(1, 2, False, 0), deltat.Node(2, PARAMS, [deltat.Link(1, CHARGE)], {1: 1}, start=deltat.Start.FIRST, at=0, longest=longest)], deltat.Flow(1, 10, 2, 20), []
     octets, at = random.Random(3).randbytes(longest), 0
     for place in range(0, longest, 50_000):
         nodes[0].send(flow, octets[place : place + 50_000], place == 0, place == 100_000, at=at)
@@ -156,7 +154,7 @@ def whole() -> bool:
     if found != wanted:
         print(f"whole: {[(port, it[:10], len(it), gap) for port, it, gap in found]} came")
     right = found == wanted and nodes[1].too_long == 0
-    nodes = [node_of(1, 2, False, 0), deltat.Node(2, PARAMS, [deltat.Link(1, CHARGE)], {1: 1}, again=False, at=0, longest=5)]
+    nodes = [node_of(1, 2, False, 0), deltat.Node(2, PARAMS, [deltat.Link(1, CHARGE)], {1: 1}, start=deltat.Start.FIRST, at=0, longest=5)]
     for it in (b"longer", b"short", b"longest", b"end"):
         nodes[0].send(flow, it, at=1)
     return right and taken(nodes, 1) == [(10, b"short", True), (10, b"end", False)] and nodes[1].too_long == 2
@@ -173,7 +171,7 @@ class Run:
         self.life, self.came = {1: 0, 2: 0}, []
 
     def flush(self, number: int) -> None:
-        for frame in self.nodes[number].frames():
+        for frame in self.nodes[number].datagrams():
             copies = self.chance.choices([0, 1, 2, 3], [15, 65, 15, 5])[0]
             for _ in range(copies):
                 heapq.heappush(self.links, (self.at + self.chance.randrange(CHARGE), next(self.count), frame.to, frame.octets))
@@ -204,7 +202,7 @@ class Run:
             self.restart(self.chance.choice([1, 2]))
         elif self.links and what < 0.8:
             self.at, _, to, octets = heapq.heappop(self.links) if self.links[0][0] >= self.at else (self.at, *heapq.heappop(self.links)[1:])
-            self.nodes[to].arrive(1, octets, at=self.at)
+            self.nodes[to].receive(1, octets, at=self.at)
             self.take(to)
         else:
             self.at = min([self.at + self.chance.choice([1, 20, 100, 7000]), *(it[0] for it in self.links[:1])])
@@ -251,11 +249,11 @@ with deltat.Udp(node, ({host!r}, port), {{3 - number: ({host!r}, to)}}) as udp:
             count += 1
         except (deltat.Full, deltat.Quiet):
             pass
-        for message in udp.settle(0.02):
+        for message in udp.run_for(0.02):
             print(message.octets.split(b"\\0")[0].decode(), len(message.octets), flush=True)
-    for message in udp.settle(1.5):
+    for message in udp.run_for(1.5):
         print(message.octets.split(b"\\0")[0].decode(), len(message.octets), flush=True)
-print("sent", count, "unsent", udp.unsent, flush=True)
+print("sent", count, "unsent", udp.not_sent, flush=True)
 """
 
 
@@ -358,7 +356,7 @@ async def asynchronously() -> bool:
     chance = random.Random(9)
     is_bad = True
     with Between(lambda number, octets: chance.choices([0, 1, 2], [10, 75, 15])[0] if is_bad else 1) as link:
-        ends = [deltat.AsyncUdp(node_of(number, 3 - number, False, deltat.now()), (HOST, link.nodes[number - 1]), {3 - number: (HOST, link.port(number))}) for number in (1, 2)]
+        ends = [deltat.AsyncUdp(node_of(number, 3 - number, False, deltat.now()), (HOST, link.nodes[number - 1]), {3 - number: (HOST, link.set_port(number))}) for number in (1, 2)]
         answers: dict[bytes, asyncio.Event] = {}
         serving, hearing = asyncio.create_task(serve(ends[1])), asyncio.create_task(hear(ends[0], answers))
         await asyncio.gather(*(ask(ends[0], port, 25, answers) for port in range(10, 14)))
@@ -375,64 +373,64 @@ async def asynchronously() -> bool:
             end.close()
         told = await asyncio.gather(*waiting, return_exceptions=True)
         print(f"asynchronous: {sum(it.is_set() for it in answers.values())} of 100 were answered")
-        return right and all(isinstance(it, deltat.Spent) for it in told)
+        return right and all(isinstance(it, deltat.Stopped) for it in told)
 
 
 def asynchronous() -> bool:
     return asyncio.run(asynchronously())
 
 
-def service_of(number: int, ports: dict[int, deltat_service.Kind]) -> deltat_service.Service:
-    service = deltat_service.Service(number, 1, PARAMS, [deltat.Link(1, CHARGE)], {3 - number: 1}, again=False)
+def service_of(number: int, ports: dict[int, deltat.PortKind]) -> deltat.Service:
+    service = deltat.Service(number, 1, PARAMS, [deltat.Link(1, CHARGE)], {3 - number: 1}, start=deltat.Start.FIRST)
     for port, kind in ports.items():
-        service.port(port, kind)
+        service.set_port(port, kind)
     return service
 
 
-def unsure(cause: deltat_service.Cause, call: object, *words: object) -> bool:
+def unsure(cause: deltat.Cause, call: object, *words: object) -> bool:
     """Whether a call is unsure for this cause."""
     try:
         call(*words)
-    except deltat_service.Unsure as why:
+    except deltat.Unsure as why:
         return why.cause is cause
     return False
 
 
 def serve_calls(link: Between, served: list[bytes]) -> None:
     """A service of two ports: one answers with the octets reversed, the other with nothing."""
-    service = service_of(2, {20: deltat_service.Kind.SERVICE, 21: deltat_service.Kind.SERVICE})
-    with deltat.Udp(service, (HOST, link.nodes[1]), {1: (HOST, link.port(2))}) as udp:
-        calls = deltat_service.Calls(udp)
+    service = service_of(2, {20: deltat.PortKind.SERVICE, 21: deltat.PortKind.SERVICE})
+    with deltat.Udp(service, (HOST, link.nodes[1]), {1: (HOST, link.set_port(2))}) as udp:
+        calls = deltat.Calls(udp)
 
         @calls.on(20)
-        def backwards(request: deltat_service.Request) -> bytes:
+        def backwards(request: deltat.Request) -> bytes:
             served.append(request.payload)
             return request.payload[::-1]
 
         @calls.on(21)
-        def silent(request: deltat_service.Request) -> None:
+        def silent(request: deltat.Request) -> None:
             served.append(request.payload)
 
         calls.run(3)
 
 
 def calls_in_turn(link: Between, payloads: list[bytes]) -> bool:
-    client = service_of(1, {10: deltat_service.Kind.CALLER})
-    with deltat.Udp(client, (HOST, link.nodes[0]), {2: (HOST, link.port(1))}) as udp:
-        calls = deltat_service.Calls(udp)
+    client = service_of(1, {10: deltat.PortKind.CALLER})
+    with deltat.Udp(client, (HOST, link.nodes[0]), {2: (HOST, link.set_port(1))}) as udp:
+        calls = deltat.Calls(udp)
         answers = [calls.call(deltat.Flow(1, 10, 2, 20), it, 10.0) for it in payloads]
-        right = unsure(deltat_service.Cause.PATIENCE, calls.call, deltat.Flow(1, 10, 2, 21), b"silent", 1.5)
-        right = refused(deltat.BadParameter, calls.call, deltat.Flow(1, 11, 2, 20), b"from a plain port") and right
+        right = unsure(deltat.Cause.TIMEOUT, calls.call, deltat.Flow(1, 10, 2, 21), b"silent", 1.5)
+        right = refused(deltat.InvalidArgument, calls.call, deltat.Flow(1, 11, 2, 20), b"from a plain port") and right
         return right and answers == [it[::-1] for it in payloads]
 
 
 async def calls_at_once(link: Between, payloads: list[bytes]) -> bool:
-    kinds = {1: {port: deltat_service.Kind.CALLER for port in range(10, 14)}, 2: {20: deltat_service.Kind.SERVICE}}
-    ends = {it: deltat.AsyncUdp(service_of(it, kinds[it]), (HOST, link.nodes[it - 1]), {3 - it: (HOST, link.port(it))}) for it in (1, 2)}
-    client, server = deltat_service.AsyncCalls(ends[1]), deltat_service.AsyncCalls(ends[2])
+    kinds = {1: {port: deltat.PortKind.CALLER for port in range(10, 14)}, 2: {20: deltat.PortKind.SERVICE}}
+    ends = {it: deltat.AsyncUdp(service_of(it, kinds[it]), (HOST, link.nodes[it - 1]), {3 - it: (HOST, link.set_port(it))}) for it in (1, 2)}
+    client, server = deltat.AsyncCalls(ends[1]), deltat.AsyncCalls(ends[2])
 
     @server.on(20)
-    async def backwards(request: deltat_service.Request) -> bytes:
+    async def backwards(request: deltat.Request) -> bytes:
         await asyncio.sleep(0.01)
         return request.payload[::-1]
 
@@ -444,18 +442,18 @@ async def calls_at_once(link: Between, payloads: list[bytes]) -> bool:
     for end in ends.values():
         end.close()
     told, = await asyncio.gather(waiting, return_exceptions=True)
-    return answers == [it[::-1] for it in payloads] and isinstance(told, deltat_service.Unsure) and told.cause is deltat_service.Cause.CLOSED
+    return answers == [it[::-1] for it in payloads] and isinstance(told, deltat.Unsure) and told.cause is deltat.Cause.STOPPED
 
 
 def reply_given_up(link: Between) -> bool:
     """Whether a service is told the flow of a request whose client went away before the reply."""
     flow = deltat.Flow(1, 10, 2, 20)
-    service = service_of(2, {20: deltat_service.Kind.SERVICE})
-    with deltat.Udp(service, (HOST, link.nodes[1]), {1: (HOST, link.port(2))}) as udp:
-        calls = deltat_service.Calls(udp)
+    service = service_of(2, {20: deltat.PortKind.SERVICE})
+    with deltat.Udp(service, (HOST, link.nodes[1]), {1: (HOST, link.set_port(2))}) as udp:
+        calls = deltat.Calls(udp)
         calls.on(20)(lambda request: request.payload)
-        client = service_of(1, {10: deltat_service.Kind.CALLER})
-        with deltat.Udp(client, (HOST, link.nodes[0]), {2: (HOST, link.port(1))}) as asks:
+        client = service_of(1, {10: deltat.PortKind.CALLER})
+        with deltat.Udp(client, (HOST, link.nodes[0]), {2: (HOST, link.set_port(1))}) as asks:
             client.call(flow, b"and away", 10_000)
             asks.flush(deltat.now())
         calls.run((PARAMS.mpl + PARAMS.r + PARAMS.a) / 1000 + 3)
@@ -517,18 +515,18 @@ def recorded() -> bool:
 
     with tempfile.TemporaryDirectory() as folder, Between(rule) as link:
         nodes = {}
-        for number, most in ((1, deltat_record.MOST), (2, SHORT_RECORD)):
-            deltat_record.MOST = most
-            nodes[number] = deltat_record.Recorded(f"{folder}/{number}", number, PARAMS, [deltat.Link(1, CHARGE)], {3 - number: 1}, again=number == 2)
-        ends = {number: Failing(node, (HOST, link.nodes[number - 1]), {3 - number: (HOST, link.port(number))}) for number, node in nodes.items()}
-        came = exchanged(ends, chance, PARAMS.quiet / 1000 + 6)
+        for number, most in ((1, deltat.MOST), (2, SHORT_RECORD)):
+            deltat.MOST = most
+            nodes[number] = deltat.Recorded(f"{folder}/{number}", number, PARAMS, [deltat.Link(1, CHARGE)], {3 - number: 1}, again=number == 2)
+        ends = {number: Failing(node, (HOST, link.nodes[number - 1]), {3 - number: (HOST, link.set_port(number))}) for number, node in nodes.items()}
+        came = exchanged(ends, chance, PARAMS.quiet_ms / 1000 + 6)
         for number, udp in ends.items():
             udp.close()
             with open(f"{folder}/{number}", "rb") as given, open(f"{folder}/{number}.log", "rb") as log:
                 ran, told = subprocess.run([str(PROGRAM), "retrace"], stdin=given, capture_output=True), log.read()
             words = {line.split(b" ")[2] for line in told.splitlines()[:-1]}
             size = os.path.getsize(f"{folder}/{number}")
-            print(f"recorded: node {number} told {told.count(10)} lines of {len(words)} kinds, in {size} octets; {udp.unsent} frames weren't sent")
+            print(f"recorded: node {number} told {told.count(10)} lines of {len(words)} kinds, in {size} octets; {udp.not_sent} frames weren't sent")
             wanted = {b"unsent", b"bad", b"read", b"resent"} if number == 1 else {b"refused", b"quiet"}
             right = right and (ran.returncode, ran.stdout) == (0, told) and wanted <= words and (number == 1 or size <= SHORT_RECORD)
     print(f"recorded: {came} messages came")
@@ -586,7 +584,7 @@ def examples() -> bool:
             counter, echo = (compiled(compiler, name, folder) for name in ("counter", "echo"))
             right = counter is not None and counted([counter]) and right
             # the nodes of the service before have to be forgotten: those of this one are other lives
-            time.sleep(PARAMS.quiet / 1000)
+            time.sleep(PARAMS.quiet_ms / 1000)
             right = echo is not None and asked([echo]) and right
     return right
 
@@ -602,7 +600,7 @@ def rust() -> bool:
             if ran.returncode or "warning" in ran.stderr:
                 print(f"rust: cargo {words[0]} ended with {ran.returncode}: {(ran.stdout + ran.stderr)[-500:]}")
                 return False
-        time.sleep(PARAMS.quiet / 1000)
+        time.sleep(PARAMS.quiet_ms / 1000)
         return asked([f"{folder}/debug/examples/echo"])
 
 

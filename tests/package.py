@@ -226,10 +226,10 @@ def used(root: Path, room: Path) -> list[Case]:
 # two nodes of the package's Python module, and a message
 ASKS = """import deltat
 params = deltat.Params(1000, 3000, 200, 100, 800, 500, 4096, 4096, 4096)
-one, two = (deltat.Node(it, params, [deltat.Link(1, 90)], {3 - it: 1}, again=False, at=0) for it in (1, 2))
+one, two = (deltat.Node(it, params, [deltat.Link(1, 90)], {3 - it: 1}, start=deltat.Start.FIRST, at=0) for it in (1, 2))
 one.send(deltat.Flow(1, 10, 2, 20), b"hello", at=0)
-for frame in one.frames():
-    two.arrive(frame.link, frame.octets, at=1)
+for frame in one.datagrams():
+    two.receive(frame.link, frame.octets, at=1)
 print([it.octets for it in two.messages(2)])
 """
 

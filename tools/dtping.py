@@ -52,7 +52,7 @@ def ping(end: live.Live, asked: argparse.Namespace) -> int:
             took.append(1000 * found)
         print(f"{number_of}: {asked.size} octets, " + (f"{took[-1]:.1f} ms" if found is not None else "uncertain"), flush=True)
         if number_of < asked.count:
-            end.udp.settle(max(asked.interval - (time.monotonic() - begun), 0))
+            end.udp.run_for(max(asked.interval - (time.monotonic() - begun), 0))
     lost = asked.count - len(took)
     times = f", {min(took):.1f} {statistics.median(took):.1f} {max(took):.1f} ms" if took else ""
     print(f"{asked.count} messages, {lost} uncertain, {end.resent} sent again{times}")

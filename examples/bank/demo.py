@@ -46,7 +46,7 @@ sys.path[:0] = [str(HERE), str(HERE.parents[1] / "tests")]
 
 import bank  # noqa: E402
 from accounts import ACCOUNTS, START, Bank, Notes, moment  # noqa: E402
-from bank import deltat, service  # noqa: E402
+from bank import deltat  # noqa: E402
 from wan import Bound, Carrier, Link, Outcome, impaired_link, stop  # noqa: E402
 
 DELAY = 20
@@ -271,11 +271,11 @@ def first_ask(folder: pathlib.Path) -> None:
     """How long a first answer takes, in ms: on a flow, or a connection, that was never used."""
     time.sleep(1)
     took: dict[str, list[float]] = {"calls": [], "TCP": []}
-    node = service.Service(1, 1, bank.PARAMS, [deltat.Link(1, bank.CHARGE)], {bank.BANK: 1}, again=False)
+    node = deltat.Service(1, 1, bank.PARAMS, [deltat.Link(1, bank.CHARGE)], {bank.BANK: 1}, start=deltat.Start.FIRST)
     with bank.client_udp(node) as udp:
-        calls = service.Calls(udp)
+        calls = deltat.Calls(udp)
         for at in range(FIRSTS):
-            node.port(10 + at, service.Kind.CALLER)
+            node.set_port(10 + at, deltat.PortKind.CALLER)
             begun = time.monotonic()
             calls.call(deltat.Flow(1, 10 + at, bank.BANK, 20), b"balance 7", 5.0)
             took["calls"].append(1000 * (time.monotonic() - begun))
