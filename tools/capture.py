@@ -82,7 +82,7 @@ def read_script(text: str) -> Script:
             elif words[0] == "at" and words[2] == "send":
                 sends.append(bytes.fromhex(words[5]))
         except (ValueError, IndexError):
-            raise Refused(f"line {number} of the script doesn't read: {line[:60]}") from None
+            raise Refused(f"line {number} of the script isn't valid: {line[:60]}; give the script that the node ran") from None
     if not text.endswith("\n"):
         text += "\n"
     return Script(text, life, node, local, peers, charges, routes, sends)
@@ -131,7 +131,7 @@ def run_again(program: str, text: str) -> tuple[int, list[str]]:
     lines = ran.stdout.decode("ascii").splitlines()
     if ran.returncode in (0, 3, 5, 6):
         return ran.returncode, lines
-    raise Refused(f"the run can't be run again: {ran.stderr.decode().strip()} (status {ran.returncode})")
+    raise Refused(f"{program} retrace failed with status {ran.returncode}: {ran.stderr.decode().strip()}")
 
 
 def log_of(program: str, script: Script, trace: str, text: str) -> list[str]:
@@ -139,8 +139,8 @@ def log_of(program: str, script: Script, trace: str, text: str) -> list[str]:
     status, lines = run_again(program, text)
     if status == 3:
         _, plain = run_again(program, script.text + "trace\n" + trace)
-        fault = plain[-1] if plain and plain[-1].startswith("line ") else "the input is too long"
-        raise Refused(f"the run can't be run again: {fault}")
+        fault = plain[-1] if plain and plain[-1].startswith("line ") else "script and trace are too long together"
+        raise Refused(f"{program} retrace refused the run: {fault}; give the script and the trace of one run")
     return lines
 
 
@@ -284,7 +284,7 @@ def main() -> int:
     parser.add_argument("--start", type=float, default=0.0, metavar="SECONDS", help="when the run began, in seconds since 1970 (default: 0)")
     given = parser.parse_args()
     if sys.stdout.isatty():
-        parser.error("the capture would go to a terminal: put > FILE.pcapng behind it")
+        parser.error("standard output is a terminal; add > FILE.pcapng")
     try:
         texts = [pathlib.Path(it).read_text(encoding="latin-1") for it in (given.script, given.trace)]
         script = read_script(texts[0])

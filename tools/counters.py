@@ -277,7 +277,7 @@ def write_again(path: str, counts: Counts, every: float, ended: threading.Event)
         try:
             write(path, counts.text())
         except OSError as fault:
-            print(f"counters.py: {path}: {fault.strerror}", file=sys.stderr)
+            print(f"counters.py: {path} can't be written: {fault.strerror}; the counters there are old", file=sys.stderr)
         if last:
             return
 
@@ -290,8 +290,10 @@ def arguments() -> argparse.Namespace:
     parser.add_argument("--flows", type=int, default=10_000, metavar="N", help="flows with counts of their own (default: %(default)s)")
     parser.add_argument("--through", action="store_true", help="pass the log on to standard output")
     given = parser.parse_args()
-    if given.every <= 0 or given.flows < 1:
-        parser.error("--every and --flows are above 0")
+    if given.every <= 0:
+        parser.error(f"--every is {given.every:g}; it must be above 0")
+    if given.flows < 1:
+        parser.error(f"--flows is {given.flows}; it must be at least 1")
     return given
 
 
@@ -305,7 +307,7 @@ def main() -> int:
             writer.start()
         if given.listen is not None:
             server = serve(given.listen, counts)
-            print(f"counters.py: http://127.0.0.1:{server.server_port}/metrics", file=sys.stderr, flush=True)
+            print(f"counters.py: the counters are at http://127.0.0.1:{server.server_port}/metrics", file=sys.stderr, flush=True)
         follow(sys.stdin.buffer, counts, sys.stdout.buffer if given.through else None)
     except KeyboardInterrupt:
         pass

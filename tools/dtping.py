@@ -55,7 +55,7 @@ def ping(end: live.Live, asked: argparse.Namespace) -> int:
             end.udp.run_for(max(asked.interval - (time.monotonic() - begun), 0))
     lost = asked.count - len(took)
     times = f", {min(took):.1f} {statistics.median(took):.1f} {max(took):.1f} ms" if took else ""
-    print(f"{asked.count} messages, {lost} uncertain, {end.resent} sent again{times}")
+    print(f"{asked.count} messages, {lost} uncertain, {end.resent} resent{times}")
     return 1 if lost else 0
 
 

@@ -289,7 +289,7 @@ def judged(program: str, lines: list[Entry]) -> tuple[bool, str]:
     if ran.returncode == 0:
         return True, said
     if ran.returncode != 3 or not said.startswith("line "):
-        raise OSError(0, ran.stderr.decode().strip() or f"status {ran.returncode}", program)
+        raise OSError(0, f"the audit failed with status {ran.returncode}: {ran.stderr.decode().strip()}", program)
     number, flaw = said.removeprefix("line ").split(": ", 1)
     it = lines[int(number) - 1]
     return False, f"{it.place()}: {flaw}: {it.text}"
@@ -313,10 +313,10 @@ def main() -> int:
             Path(asked.out).write_bytes(text.encode("latin-1"))
         well, said = judged(asked.deltat, lines) if asked.deltat else (True, "")
     except NoLog as why:
-        print(why, file=sys.stderr)
+        print(f"fieldaudit.py: {why}", file=sys.stderr)
         return 2
     except OSError as why:
-        print(f"{why.filename}: {why.strerror}", file=sys.stderr)
+        print(f"fieldaudit.py: {why.filename}: {why.strerror}", file=sys.stderr)
         return 2
     for it in order.notes:
         print(f"note: {it}", file=sys.stderr)

@@ -28,7 +28,7 @@ class End(NamedTuple):
 def end(word: str) -> End:
     found = re.fullmatch(r"(\d{1,10})@(?:([^@:]+):)?(\d{1,5})", word)
     if not found or int(found[1]) >= 2**32 or not 0 < int(found[3]) < 2**16:
-        raise argparse.ArgumentTypeError(f"{word!r} isn't NODE@HOST:PORT")
+        raise argparse.ArgumentTypeError(f"{word!r} isn't valid; write NODE@HOST:PORT, or NODE@PORT on 127.0.0.1")
     return End(int(found[1]), found[2] or "127.0.0.1", int(found[3]))
 
 
