@@ -34,7 +34,7 @@ LEAST = 10
 ROUND = "1000 3000 200 500 800 100 65536 65536 65536 2147483648"
 # what tools/params.py allows for the wait in a socket
 SOCKET = 20
-# a serial line has the numbers of its own speed, which it names; hello.c computes its numbers
+# a serial line has the numbers of its own speed, which it tells, and two nodes in one program need none of a network
 OWN = {"serial.c", "hello.c"}
 
 
