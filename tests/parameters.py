@@ -34,8 +34,8 @@ LEAST = 10
 ROUND = "1000 3000 200 500 800 100 65536 65536 65536 2147483648"
 # what tools/params.py allows for the wait in a socket
 SOCKET = 20
-# a serial line has the numbers of its own speed, which it tells
-OWN = {"serial.c"}
+# a serial line has the numbers of its own speed, which it tells, and two nodes in one program need none of a network
+OWN = {"serial.c", "hello.c"}
 
 
 def told(words: str) -> list[str]:
@@ -85,7 +85,7 @@ def has_numbers_of(words: str, text: str) -> bool:
     first = [int(it) for it in numbers.split()[1:10]]
     delay, round_trip = words.split()
     if f"DT_NETWORK({delay}000, {round_trip}000)" in text and "dt_params_for(" in text:
-        # the library computes them, and tests/interface.py compares it with the tool
+        # the library computes them, and tests/params_for.py compares it with the tool
         return True
     found = re.search(r"PARAMS = (?:deltat\.Params\(|\{)(.*)[)}]", text)
     own = re.search(r"CHARGE = (\d+)", text)
