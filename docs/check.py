@@ -14,9 +14,10 @@ It refuses, each with page and line:
 - a count of the files that have a row for each written or read line, where the sources have other files;
 - a list of docs/headline.md that differs from the definitions that its sentences rest on;
 - a file of a crate that says nothing of itself, so that docs/files.py would list it without a word;
-- a copy of the header that differs from what release/interface.py makes of it, and exports of crates/dt_c that differ from it;
-- a public name of the library, in C, Python or Rust, that the table of words of docs/library.md doesn't have, or has twice;
-  and a name of that table that nothing has;
+- a copy of the header that differs from what release/interface.py makes of it, and exports of crates/dt_c that differ
+  from it;
+- a public name of the library, in C, Python or Rust, that the table of words of docs/library.md doesn't have, or has
+  twice; and a name of that table that nothing has;
 - a script that can't be run as the pages say, since it isn't executable;
 - a must-fail edit whose text doesn't stand once in its file: the `rt ci` of some kits counts it for nothing, and passes;
 - two edits of a crate, or a planted bug without a name;
@@ -649,7 +650,7 @@ WORDS = "## Words\n"
 
 
 def words_of(column: int) -> dict[str, int]:
-    """The names in backticks of a column of the table of words, and the line of each. One that stands twice has line 0."""
+    """The names in backticks of a column of the table of words, and the line of each; 0 if it is there twice."""
     found: dict[str, int] = {}
     lines = text_of(LIBRARY).splitlines()
     begins = lines.index(WORDS.strip())
@@ -667,17 +668,15 @@ def names_in_c() -> set[str]:
     it = interface.header()
     parts = (it.functions, it.structs, it.enums, it.constants)
     # (results are those of their functions, and need no word)
-    return {one.name for part in parts for one in part} | set(it.opaque) | set(re.findall(r"#define (DT_\w+)\(", text_of(interface.HEADER)))
+    macros = re.findall(r"#define (DT_\w+)\(", text_of(interface.HEADER))
+    return {one.name for part in parts for one in part} | {*it.opaque, *macros}
 
 
 def names_in_python() -> set[str]:
-    """What the modules hand out, once they stand on the tables that are made from the header."""
-    found: set[str] = set()
-    for path in sorted((TOP / "bindings" / "python").rglob("*.py")):
-        listed = re.search(r"^__all__ = \[(.*?)\]", text_of(path), re.DOTALL | re.MULTILINE)
-        found |= set(re.findall(r"\"(\w+)\"", listed[1])) if listed else set()
-    is_new = any("_deltat_c" in text_of(it) for it in (TOP / "bindings" / "python").rglob("deltat*.py"))
-    return found if is_new else set()
+    """What the package hands out."""
+    path = TOP / "bindings" / "python" / "deltat" / "__init__.py"
+    listed = re.search(r"^__all__ = \[(.*?)\]", text_of(path) if path.is_file() else "", re.DOTALL | re.MULTILINE)
+    return set(re.findall(r"\"(\w+)\"", listed[1])) if listed else set()
 
 
 def names_in_rust() -> set[str]:
@@ -685,13 +684,15 @@ def names_in_rust() -> set[str]:
     path = TOP / "bindings" / "rust" / "deltat" / "src" / "lib.rs"
     text = text_of(path) if path.is_file() else ""
     listed = re.findall(r"^pub use [\w:]+?::(?:\{([^}]*)\}|(\w+));", text, re.MULTILINE)
-    return {name for pair in listed for name in re.findall(r"\w+", " ".join(pair))} | set(re.findall(r"^pub fn (\w+)", text, re.MULTILINE))
+    functions = re.findall(r"^pub fn (\w+)", text, re.MULTILINE)
+    return {name for pair in listed for name in re.findall(r"\w+", " ".join(pair))} | set(functions)
 
 
 def check_interface() -> Iterator[Complaint]:
     for path, what in interface.differences():
         yield Complaint(path, 1, what)
-    for column, language, names in ((2, "C", names_in_c()), (3, "Python", names_in_python()), (4, "Rust", names_in_rust())):
+    public = (("C", names_in_c()), ("Python", names_in_python()), ("Rust", names_in_rust()))
+    for column, (language, names) in enumerate(public, 2):
         listed = words_of(column)
         for name in sorted(names - listed.keys()) if names else ():
             yield Complaint(LIBRARY, 1, f"the table of words hasn't {name}, a name in {language}")

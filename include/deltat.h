@@ -29,10 +29,10 @@
  *     memory, aligned to dt_node_align() (a service: the dt_service_ functions), on which
  *     dt_node_init is called once before any other call. Don't read, write, copy or move a handle,
  *     and call dt_node_close before you release its memory. No pointer may be null, even if a
- *     length is 0. A length is the number of elements at the pointer, and they take less than 2^63
- *     octets. Nothing passed to a call may overlap what the call writes. A bool is 0 or 1. The
- *     library allocates with rattle_alloc, rattle_realloc and rattle_dealloc (lib/heap.c: malloc,
- *     realloc, free); link your own to replace them.
+ *     length is 0, unless the function says so. A length is the number of elements at the pointer,
+ *     and they take less than 2^63 octets. Nothing passed to a call may overlap what the call
+ *     writes. A bool is 0 or 1. The library allocates with rattle_alloc, rattle_realloc and
+ *     rattle_dealloc (lib/heap.c: malloc, realloc, free); link your own to replace them.
  *  2. Threads. One call at a time per handle, from any thread; different handles may be used at the
  *     same time if the allocator allows it. No call blocks or calls back. Make no call in a signal
  *     handler, nor in the forked child of a process with threads. After any fork only one of the
@@ -78,39 +78,43 @@
  *
  * ---- 2 THE LOOP OF A PROGRAM ----
  *
- *   uint8_t out[DT_MAX_DATAGRAM];                          every datagram fits
- *   for (;;) {
- *       wake = dt_node_wake(node);                         DT_NEVER: nothing is due
- *       wait for a datagram until `wake`, but for at least 1 ms
- *       for (;;) {
- *           looked_at = now();
- *           if (!receive a datagram, without waiting) break;
+ * The functions without dt_ are yours: now() reads the clock (duty 3), receive_datagram() takes a
+ * datagram from the socket if one waits, waited_ms() is the lesser of its second argument and of
+ * what the stamp of the datagram says (duty 5). tests/library/loops.c runs this text.
+ *
+ *   void send_datagrams(dt_node *node) {
+ *       uint8_t out[DT_MAX_DATAGRAM];                   // every datagram fits
+ *       struct dt_datagram datagram = {.size = sizeof datagram};
+ *       while (dt_node_next_datagram(node, out, sizeof out, &datagram) == DT_OK)
+ *           put_on_wire(out, &datagram);                // on datagram.link, or to datagram.to
+ *   }
+ *
+ *   for (empty_at = now();;) {
+ *       wait_for_datagram(dt_node_wake(node));          // until then, for at least 1 ms;
+ *                                                       // DT_NEVER: nothing is due
+ *       while (looked_at = now(), receive_datagram(&in)) {
  *           at = now();
- *           dt_node_receive(node, at, link, octets, len, the lesser of at - empty_at and
- *                                                        at - stamp, rounded up: duty 5);
- *           send_all();
+ *           dt_node_receive(node, at, in.link, in.octets, in.len, waited_ms(&in, at - empty_at));
+ *           send_datagrams(node);
  *       }
- *       empty_at = looked_at;                              and before the loop: now()
+ *       empty_at = looked_at;                           // the clock before the look, not after it
  *       at = now();
- *       if (dt_node_tick(node, at) != DT_OK) break;        out of memory: close, open again
+ *       if (dt_node_tick(node, at) != DT_OK) break;     // out of memory: close, open again
  *       while (dt_node_next_report(node, &report) == DT_OK)
  *           if (report.kind == DT_REPORT_ACCEPTED ||
  *               (report.kind == DT_REPORT_RECORD_RELEASED && !report.sending))
  *               if (dt_node_mark_readable(node, &report.flow) == DT_NO_MEMORY)
- *                   keep the flow, and mark it again before the next dt_node_next_message
+ *                   mark_later(&report.flow);           // before the next dt_node_next_message
  *       do {
  *           status = dt_node_next_message(node, at, buf, room, &message);
- *           if (status == DT_OK) use message.len octets of buf
- *           if (status == DT_BUFFER_TOO_SMALL) make buf message.len octets long
- *           if (status == DT_LOST) a message of message.flow is lost: log it
+ *           if (status == DT_OK) use(&message, buf);
+ *           if (status == DT_BUFFER_TOO_SMALL) buf = longer(buf, room = message.len);
+ *           if (status == DT_LOST) log_loss(&message.flow);
  *       } while (status == DT_OK || status == DT_BUFFER_TOO_SMALL || status == DT_LOST ||
  *                status == DT_MORE);
- *       if (status != DT_NONE) break;                      out of memory: close, open again
- *       send_all();
+ *       if (status != DT_NONE) break;                   // out of memory: close, open again
+ *       send_datagrams(node);
  *   }
- *
- *   send_all: while (dt_node_next_datagram(node, out, sizeof out, &datagram) == DT_OK)
- *                 send datagram.len octets of out on datagram.link, or to node datagram.to;
  *
  * examples/echo.c and examples/counter.c are whole programs.
  */
@@ -574,21 +578,26 @@ dt_status dt_node_get_flow_counts(dt_node *node, const struct dt_flow *flow,
  * argument or a datagram that is refused does none of this.
  * Cost: grows with the number of calls that wait and of requests that are open.
  *
- *   for (;;) {
- *       wake = dt_service_wake(service);
- *       wait for a datagram until `wake`, but for at least 1 ms
- *       receive what arrived, as in section 2, by dt_service_receive
- *       running = dt_service_tick(service, now()) == DT_OK;
- *       while (dt_service_next_event(service, buf, DT_MAX_PAYLOAD, &event) == DT_OK) {
- *           if (event.kind == DT_EVENT_REQUEST) {
- *               struct dt_token token = {event.call, event.flow};
- *               dt_service_reply(service, now(), &token, answer, answer_len);
- *                                   now or later, in any order; DT_FULL: keep the token, try again
- *           } else if (event.kind != DT_EVENT_REPLY_UNCERTAIN)
- *               the call with event.user is over
+ *   for (empty_at = now();;) {
+ *       wait_for_datagram(dt_service_wake(service));
+ *       while (looked_at = now(), receive_datagram(&in)) {
+ *           at = now();
+ *           dt_service_receive(service, at, in.link, in.octets, in.len,
+ *                              waited_ms(&in, at - empty_at));
+ *           send_service_datagrams(service);            // as send_datagrams in section 2
  *       }
- *       send_all();
- *       if (!running) break;        stopped: each call has had its event; close, open again
+ *       empty_at = looked_at;
+ *       is_running = dt_service_tick(service, now()) == DT_OK;
+ *       while (dt_service_next_event(service, buf, DT_MAX_PAYLOAD, &event) == DT_OK) {
+ *           struct dt_token token = {event.call, event.flow};
+ *           if (event.kind == DT_EVENT_REQUEST)
+ *               serve(&token, buf, event.len);          // dt_service_reply now or later, in any
+ *                                                       // order; DT_FULL: try again later
+ *           else if (event.kind != DT_EVENT_REPLY_UNCERTAIN)
+ *               call_has_ended(&event, buf);            // the call with event.user
+ *       }
+ *       send_service_datagrams(service);
+ *       if (!is_running) break;                         // stopped: each call has had its event
  *   }
  *
  * In a buffer of DT_MAX_PAYLOAD octets every event fits. With a shorter one, DT_BUFFER_TOO_SMALL
@@ -823,7 +832,7 @@ size_t dt_report_line(const struct dt_report *report, uint64_t now, uint32_t nod
 struct dt_network {         /* what is known of a network, and wanted of it */
     uint32_t size;
     uint32_t hops;          /* links of the longest path: 1 to 256 */
-    uint64_t delay_us;      /* longest delay of a link, with all queues, under load, in microseconds:
+    uint64_t delay_us;      /* longest delay of a link in microseconds, with all queues, under load:
                                at most a day */
     uint64_t round_trip_us; /* a usual round trip from end to end: at most a day */
     uint32_t drift_ppm;     /* by how much a clock may run wrong, in parts per million: at most

@@ -42,8 +42,8 @@ const char *dt_fault_name(uint8_t fault) {
     }
 }
 
-const char *dt_report_name(uint8_t kind) {
-    switch (kind) {
+const char *dt_report_name(uint8_t report) {
+    switch (report) {
     case DT_REPORT_SEND_QUEUED: return "DT_REPORT_SEND_QUEUED";
     case DT_REPORT_SEND_QUIET: return "DT_REPORT_SEND_QUIET";
     case DT_REPORT_SEND_FULL: return "DT_REPORT_SEND_FULL";

@@ -7,11 +7,12 @@
 
 The header is the source. Made from it: the Rust declarations (RUST), the ctypes tables (PYTHON), the places of fields
 that tests/library/layout.c has a compiler check, the names in lib/names.c, and the enums of include/deltat.hpp.
-release/manpage.py takes the calls of libdeltat(3) from here. Compared with it: DELTAT_VERSION with VERSION, and the exports and structs of crates/dt_c, name by
-name and type by type. Ends with 1 if something differs, and with 2 if the words are wrong or the header isn't understood.
+release/manpage.py takes the calls of libdeltat(3) from here, and tests/library.py the loops. Compared with it:
+DELTAT_VERSION with VERSION, and the exports and structs of crates/dt_c, name by name and type by type. Ends with 1 if
+something differs, and with 2 if the words are wrong or the header isn't understood.
 
-It reads the C that the header has: `#define NAME VALUE`, enums with a number for each name, structs of plain fields, and
-prototypes. Anything else is an error."""
+It reads the C that the header has: `#define NAME VALUE`, enums with a number for each name, structs of plain fields,
+and prototypes. Anything else is an error."""
 import re
 import sys
 from collections.abc import Callable, Iterator
@@ -37,7 +38,7 @@ class Unreadable(Exception):
 
 
 class Type(NamedTuple):
-    """A type of a field, an argument or a result: its name without `struct` and `const`, and whether it is a pointer."""
+    """A type of a field, an argument or a result: its name without `struct` and `const`."""
 
     name: str
     is_pointer: bool = False
@@ -152,7 +153,8 @@ def doc_of(comment: str) -> Doc:
         found = STATUS.fullmatch(line.rstrip())
         if found:
             # several statuses in a line, without words
-            names = re.findall(r"DT_\w+", line) if not found[2] or re.fullmatch(r"(DT_\w+ *)+", found[2]) else [found[1]]
+            is_list = not found[2] or re.fullmatch(r"(DT_\w+ *)+", found[2])
+            names = re.findall(r"DT_\w+", line) if is_list else [found[1]]
             statuses += [Status(it, found[2] if len(names) == 1 and found[2] else "") for it in names]
         elif statuses and line.startswith("   ") and not after:
             last = statuses[-1]
@@ -267,6 +269,17 @@ def header() -> Header:
     return read(text[text.index('#ifdef __cplusplus\nextern "C" {'):])
 
 
+# --- the loops at its head
+
+
+def code(begins: str) -> list[str]:
+    """The pieces of code in the comment of the header that has this line: lines with three blanks before them."""
+    text = HEADER.read_text()
+    comment = text[text.index(begins):].partition("*/")[0]
+    lines = [it[5:] if it.startswith(" *   ") else "" for it in comment.splitlines()]
+    return ["\n".join(it.splitlines()) + "\n" for it in re.split(r"\n{2,}", "\n".join(lines).strip("\n"))]
+
+
 # --- places of fields
 
 
@@ -322,8 +335,10 @@ def wrapped(text: str, mark: str, width: int = 116) -> Iterator[str]:
 # --- Rust
 
 
-RUST_TYPES = {"bool": "bool", "uint8_t": "u8", "uint16_t": "u16", "uint32_t": "u32", "uint64_t": "u64", "size_t": "usize", "double": "f64",
-              "char": "c_char", "void": "c_void"}
+RUST_TYPES = {
+    "bool": "bool", "uint8_t": "u8", "uint16_t": "u16", "uint32_t": "u32", "uint64_t": "u64", "size_t": "usize",
+    "double": "f64", "char": "c_char", "void": "c_void",
+}
 
 
 def rust_type(it: Type) -> str:
@@ -369,7 +384,8 @@ def rust_struct(it: Struct) -> Iterator[str]:
     for field in it.fields:
         value = "core::mem::size_of::<Self>() as u32" if field.name == "size" and it.is_sized else rust_zero(field)
         yield f"            {field.name}: {value},"
-    yield from ["        }", "    }", "}", "", f"impl Default for {it.name} {{", "    fn default() -> Self {", "        Self::new()", "    }", "}", ""]
+    yield from ["        }", "    }", "}", ""]
+    yield from [f"impl Default for {it.name} {{", "    fn default() -> Self {", "        Self::new()", "    }", "}", ""]
 
 
 def rust_constants(it: Header) -> Iterator[str]:
@@ -378,7 +394,7 @@ def rust_constants(it: Header) -> Iterator[str]:
         if isinstance(constant.value, str):
             yield f'pub const {constant.name}: &str = "{constant.value}";'
         else:
-            kind = "u64" if constant.value >= 2**32 else "u32" if constant.name.startswith("DT_ABI") or "VERSION" in constant.name else "usize"
+            kind = "u64" if constant.value >= 2**32 else "u32" if "VERSION" in constant.name else "usize"
             yield f"pub const {constant.name}: {kind} = {constant.value:_};"
     yield ""
     for enum in it.enums:
@@ -403,13 +419,15 @@ def rust_function(it: Function) -> Iterator[str]:
 def rust() -> str:
     """The declarations for Rust, under the names of C."""
     it = header()
-    lines = [f"// {MADE_BY}.", "//! What libdeltat exports, as include/deltat.h has it: names, duties and statuses are those of C.",
-             "#![allow(non_camel_case_types)]", "", "use core::ffi::c_char;", "use core::marker::{PhantomData, PhantomPinned};", ""]
+    lines = [f"// {MADE_BY}.",
+             "//! What libdeltat exports, as include/deltat.h has it: names, duties and statuses are those of C.",
+             "#![allow(non_camel_case_types)]", "",
+             "use core::ffi::c_char;", "use core::marker::{PhantomData, PhantomPinned};", ""]
     lines += rust_constants(it)
     lines += ["/// A status: one of the constants of `enum dt_status_code`.", "pub type dt_status = u8;", ""]
     for name in it.opaque:
-        lines += ["/// A handle. Its octets are the library's.", "#[repr(C)]", f"pub struct {name} {{", "    _data: [u8; 0],",
-                  "    _marker: PhantomData<(*mut u8, PhantomPinned)>,", "}", ""]
+        lines += ["/// A handle. Its octets are the library's.", "#[repr(C)]", f"pub struct {name} {{"]
+        lines += ["    _data: [u8; 0],", "    _marker: PhantomData<(*mut u8, PhantomPinned)>,", "}", ""]
     for struct in it.structs:
         lines += rust_struct(struct)
     lines.append('extern "C" {')
@@ -421,8 +439,10 @@ def rust() -> str:
 # --- Python
 
 
-PYTHON_TYPES = {"bool": "c_bool", "uint8_t": "c_uint8", "uint16_t": "c_uint16", "uint32_t": "c_uint32", "uint64_t": "c_uint64", "size_t": "c_size_t",
-                "double": "c_double", "dt_status": "c_uint8"}
+PYTHON_TYPES = {
+    "bool": "c_bool", "uint8_t": "c_uint8", "uint16_t": "c_uint16", "uint32_t": "c_uint32", "uint64_t": "c_uint64",
+    "size_t": "c_size_t", "double": "c_double", "dt_status": "c_uint8",
+}
 # enums whose name in Python isn't that of C without its prefix
 PYTHON_ENUMS = {"dt_status_code": "Status", "dt_invalid": "InvalidReason"}
 
@@ -439,9 +459,8 @@ def python_type(it: Type) -> str:
 
 def python_struct(it: Struct) -> Iterator[str]:
     yield from [f"class {camel(it.name)}(ctypes.Structure):"]
-    if it.says:
-        yield f'    """{it.says[:1].upper()}{it.says[1:].rstrip(".")}."""' if len(it.says) < 100 else f'    """`struct {it.name}`."""'
-        yield ""
+    says = f"{it.says[:1].upper()}{it.says[1:].rstrip('.')}" if 0 < len(it.says) < 100 else f"`struct {it.name}`"
+    yield from [f'    """{says}."""', ""]
     yield "    _fields_ = ["
     yield from (f'        ("{field.name}", {python_type(field.type)}),' for field in it.fields)
     yield from ["    ]", "", ""]
@@ -527,12 +546,25 @@ def python() -> str:
 # --- C
 
 
+LAYOUT_HEAD = """ * It has nothing to run. */
+#include "deltat.h"
+
+#define SIZE(type, octets) typedef char size_of_##type[sizeof(struct type) == (octets) ? 1 : -1]
+#define AT(type, field, octets) \\
+    typedef char place_of_##type##_##field[offsetof(struct type, field) == (octets) ? 1 : -1]
+"""
+# what has a name for logs: the word, its enum, and the type of its number
+NAMED = (
+    ("status", "dt_status_code", "dt_status"),
+    ("fault", "dt_fault", "uint8_t"),
+    ("report", "dt_report_kind", "uint8_t"),
+)
+
+
 def layout_c() -> str:
     """The places of fields, which a compiler compares with the header."""
-    lines = [f"/* Where the fields of each struct are, by the rules of C, and so in crates/dt_c: {MADE_BY}.",
-             " * It has nothing to run. */", '#include "deltat.h"', "",
-             "#define SIZE(type, octets) typedef char size_of_##type[sizeof(struct type) == (octets) ? 1 : -1]",
-             "#define AT(type, field, octets) typedef char place_of_##type##_##field[offsetof(struct type, field) == (octets) ? 1 : -1]", ""]
+    lines = ["/* Where the fields of each struct are, by the rules of C, and so in crates/dt_c:"]
+    lines += [f" * {MADE_BY}.", LAYOUT_HEAD]
     for it in header().structs:
         places, size = layout(it)
         lines.append(f"SIZE({it.name}, {size});")
@@ -542,10 +574,11 @@ def layout_c() -> str:
 
 
 def names_c() -> str:
-    """The names of statuses and of reports."""
-    lines = [f"/* Names for logs: {MADE_BY}. */", '#include "deltat.h"', "", "const char *dt_version(void) { return DELTAT_VERSION; }", ""]
-    for what, enum, value in (("status", "dt_status_code", "dt_status status"), ("fault", "dt_fault", "uint8_t fault"), ("report", "dt_report_kind", "uint8_t kind")):
-        lines += [f"const char *dt_{what}_name({value}) {{", f"    switch ({value.split()[1]}) {{"]
+    """The names of statuses, faults and reports."""
+    lines = [f"/* Names for logs: {MADE_BY}. */", '#include "deltat.h"', ""]
+    lines += ["const char *dt_version(void) { return DELTAT_VERSION; }", ""]
+    for what, enum, kind in NAMED:
+        lines += [f"const char *dt_{what}_name({kind} {what}) {{", f"    switch ({what}) {{"]
         lines += [f'    case {it.name}: return "{it.name}";' for it in header().enum(enum).members]
         lines += [f'    default: return "unknown {what}";', "    }", "}", ""]
     return "\n".join(lines[:-1]) + "\n"
@@ -570,12 +603,16 @@ MADE: dict[Path, Callable[[], str]] = {RUST: rust, PYTHON: python, LAYOUT: layou
 
 
 # what the structs of crates/dt_c are called, where it isn't their name here without its prefix
-EXPORTED = {"dt_params": "CParams", "dt_flow": "CFlow", "dt_link": "CLink", "dt_route": "CRoute", "dt_report": "CReport", "dt_token": "CToken", "dt_network": "CNetwork",
-            "dt_call_counts": "CCallCounts"}
+ALSO_IN_RATTLE = ("params", "flow", "link", "route", "report", "token", "network", "call_counts")
+EXPORTED = {f"dt_{it}": f"C{camel(it)}" for it in ALSO_IN_RATTLE}
 # functions that plain C of lib/ has
-IN_C = re.compile(r"dt_(version|status_name|fault_name|report_name|report_line|node_new|node_free|service_new|service_free)")
-RATTLE_TYPES = {"u8": "uint8_t", "u16": "uint16_t", "u32": "uint32_t", "u64": "uint64_t", "usize": "size_t", "bool": "bool", "Handle": "dt_node",
-                "ServiceHandle": "dt_service"}
+IN_C = re.compile(r"dt_(version|(status|fault|report)_name|report_line|(node|service)_(new|free))")
+RATTLE_TYPES = {
+    "u8": "uint8_t", "u16": "uint16_t", "u32": "uint32_t", "u64": "uint64_t", "usize": "size_t", "bool": "bool",
+    "Handle": "dt_node", "ServiceHandle": "dt_service",
+}
+EXPORT = re.compile(r'extern "C" fn (\w+)\s*\(([^)]*)\)(?:\s*->\s*(\w+))?')
+STRUCT = re.compile(r"#\[repr\(C\)\]\s*(?:#\[[^\n]*\]\s*)*pub struct (\w+)(?:<[^>]*>)? \{(.*?)\n\}", re.DOTALL)
 
 
 def rattle_types(text: str) -> Iterator[Type]:
@@ -586,7 +623,7 @@ def rattle_types(text: str) -> Iterator[Type]:
         raise Unreadable(f"no type of an export is known of: {text}")
     if found[2] == "Global":
         return
-    name = RATTLE_TYPES.get(found[2]) or names.get(found[2], found[2])
+    name = RATTLE_TYPES.get(found[2], names.get(found[2], found[2]))
     yield Type(name, bool(found[1]), bool(found[1] and found[1].startswith("&") and "mut" not in found[1]))
     if "[" in text:
         yield Type("size_t")
@@ -596,16 +633,17 @@ def exported_functions() -> dict[str, tuple[list[Type], Type]]:
     """Each export of crates/dt_c: what it takes, and its result."""
     found = {}
     for path in sorted((TOP / "crates" / "dt_c" / "src").glob("*.rt")):
-        for it in re.finditer(r'extern "C" fn (\w+)\s*\(([^)]*)\)(?:\s*->\s*(\w+))?', path.read_text()):
+        for it in EXPORT.finditer(path.read_text()):
             takes = [one.split(":", 1)[1].strip() for one in re.split(r",\s*", it[2].strip()) if one]
-            found[it[1]] = ([kind for one in takes for kind in rattle_types(one)], next(rattle_types(it[3])) if it[3] else Type("void"))
+            result = next(rattle_types(it[3])) if it[3] else Type("void")
+            found[it[1]] = ([kind for one in takes for kind in rattle_types(one)], result)
     return found
 
 
 def exported_structs() -> dict[str, list[Type]]:
     found = {}
     for path in sorted((TOP / "crates" / "dt_c" / "src").glob("*.rt")):
-        for it in re.finditer(r"#\[repr\(C\)\]\s*(?:#\[[^\n]*\]\s*)*pub struct (\w+)(?:<[^>]*>)? \{(.*?)\n\}", path.read_text(), re.DOTALL):
+        for it in STRUCT.finditer(path.read_text()):
             fields = re.findall(r"^\s*(?:pub )?(\w+): ([^,\n]+),", it[2], re.MULTILINE)
             found[it[1]] = [kind for _, one in fields for kind in rattle_types(one)]
     return found

@@ -159,7 +159,8 @@ def calls() -> Iterator[str]:
             yield from [".IP", *wrapped(spelled(function.doc.after))]
     yield ".SH RETURN VALUES"
     for member in interface.header().enum("dt_status_code").members:
-        yield from [".TP", f"\\fB{member.name}\\fR ({member.value})", *wrapped(spelled(member.says) if member.says else "the call did what it was asked")]
+        says = spelled(member.says) if member.says else "the call did what it was asked"
+        yield from [".TP", f"\\fB{member.name}\\fR ({member.value})", *wrapped(says)]
 
 
 def page(it: Manual, text: str, version: str, date: str) -> str:

@@ -17,6 +17,7 @@ these fails, and with 77 where there is no library:
   while its messages aren't read, and who waits when it is closed is told.
 - services: a service of two ports answers 30 calls over such a link, each once; a call that nobody replies to is unsure;
   a service is told of a reply to a client that is away; 100 calls at once in a loop of asyncio are answered, and one that waits when it is closed is unsure.
+- users: the end of each call has the number that the program passed to it.
 - examples: examples/echo.py asks itself, and examples/echo.c, which is compiled first, at the ports that they name; and
   tools/dtcat.py asks examples/counter.py and examples/counter.c.
 - rust: the tests of bindings/rust, where there is cargo, and its example is asked.
@@ -47,8 +48,10 @@ named = [it for it in sys.argv[1:2] if it.endswith(".so") or ".so." in it]
 os.environ["DELTAT_LIBRARY"] = os.path.abspath(named[0]) if named else str(LIBRARY)
 if not os.path.exists(os.environ["DELTAT_LIBRARY"]):
     skip(f"{os.environ['DELTAT_LIBRARY']} isn't there: make -C lib")
-sys.path.insert(0, str(TOP / "bindings" / "python"))
+sys.path[:0] = [str(TOP / "bindings" / "python"), str(TOP / "release")]
 import deltat  # noqa: E402
+import interface  # noqa: E402
+from deltat import record  # noqa: E402
 
 PARAMS = deltat.Params(mpl=1000, r=3000, a=200, rto=100, probe=800, seg=500, cap=65536, rcap=65536, window=65536)
 CHARGE = 90
@@ -57,7 +60,7 @@ SHORT_RECORD = 1_500_000
 
 
 def node_of(number: int, other: int, again: bool, at: int) -> deltat.Node:
-    return deltat.Node(number, PARAMS, [deltat.Link(1, CHARGE)], {other: 1}, again=again, at=at)
+    return deltat.Node(number, PARAMS, [deltat.Link(1, CHARGE)], {other: 1}, start=deltat.Start.AGAIN if again else deltat.Start.FIRST, at=at)
 
 
 def refused(error: type[Exception], call: object, *words: object, **named: object) -> bool:
@@ -92,9 +95,9 @@ def refusals() -> bool:
     late.send(flow, b"in time", at=100 + PARAMS.quiet_ms)
     frame = next(late.datagrams())
     right.append(frame.to == 2 and b"in time" in frame.octets)
-    right.append(node_of(2, 1, False, 0).receive(1, frame.octets, waited=1000, at=5) is deltat.Status.EXPIRED)
+    right.append(node_of(2, 1, False, 0).receive(1, frame.octets, waited_ms=1000, at=5) is deltat.Status.EXPIRED)
     guarded = node_of(2, 1, False, 0)
-    for ports, flows, status in (([21], 9, "KEPT_OUT"), ([20, 21], 0, "KEPT_OUT"), ([20], 1, "DONE"), ([20], 0, "DONE"), ([], 9, "KEPT_OUT"), (None, 0, "DONE")):
+    for ports, flows, status in (([21], 9, "BLOCKED"), ([20, 21], 0, "BLOCKED"), ([20], 1, "OK"), ([20], 0, "OK"), ([], 9, "BLOCKED"), (None, 0, "OK")):
         guarded.set_guard(ports, flows)
         right.append(guarded.receive(1, frame.octets, at=5) is deltat.Status[status])
     right.append(guarded.blocked_counts() == (2, 1))
@@ -105,15 +108,15 @@ def refusals() -> bool:
     right.append(lonely.flow_counts(flow) is None)
     lonely.count_flow(flow)
     lonely.send(flow, b"nowhere", at=1)
-    right.append(lonely.flow_counts(flow) == deltat.FlowCounts(taken=7, settled=0, uncertain=0, accepted=0, read=0))
+    right.append(lonely.flow_counts(flow) == deltat.FlowCounts(7, octets_acknowledged=0, octets_uncertain=0, octets_accepted=0, octets_read=0))
     right += [list(lonely.datagrams()) == [], refused(deltat.InvalidArgument, lonely.add_route, 2, 9)]
     lonely.add_route(2, 1)
     lonely.tick(200)
     right += [[it.to for it in lonely.datagrams()] == [2], refused(deltat.InvalidArgument, lonely.add_route, 2, 1)]
-    right.append(lonely.counts() == deltat.NodeCounts(came=0, refused=0, left=1, taken=7, settled=0, uncertain=0, accepted=0, read=0))
+    right.append(lonely.counts() == deltat.NodeCounts(0, datagrams_refused=0, datagrams_out=1, octets_queued=7, octets_acknowledged=0, octets_uncertain=0, octets_accepted=0, octets_read=0))
     node.close()
     node.close()
-    right += [refused(deltat.Stopped, node.follow, flow), refused(deltat.Stopped, node.totals, flow)]
+    right += [refused(deltat.Stopped, node.count_flow, flow), refused(deltat.Stopped, node.flow_counts, flow)]
     right += [refused(deltat.Stopped, node.tick, 5), refused(deltat.Stopped, node.counts), refused(deltat.Stopped, node.add_route, 3, 1)]
     return all(right)
 
@@ -153,11 +156,11 @@ def whole() -> bool:
     wanted = [(10, octets, True), (10, b"next", False), (11, b"other", True), (10, b"behind", True), (10, b"last", False)]
     if found != wanted:
         print(f"whole: {[(port, it[:10], len(it), gap) for port, it, gap in found]} came")
-    right = found == wanted and nodes[1].too_long == 0
+    right = found == wanted and nodes[1].dropped_too_long == 0
     nodes = [node_of(1, 2, False, 0), deltat.Node(2, PARAMS, [deltat.Link(1, CHARGE)], {1: 1}, start=deltat.Start.FIRST, at=0, longest=5)]
     for it in (b"longer", b"short", b"longest", b"end"):
         nodes[0].send(flow, it, at=1)
-    return right and taken(nodes, 1) == [(10, b"short", True), (10, b"end", False)] and nodes[1].too_long == 2
+    return right and taken(nodes, 1) == [(10, b"short", True), (10, b"end", True)] and nodes[1].dropped_too_long == 2
 
 
 class Run:
@@ -240,7 +243,7 @@ sys.path.insert(0, {path!r})
 import deltat
 number, port, to, again, seconds = (int(word) for word in sys.argv[1:6])
 params = deltat.Params(mpl=1000, r=3000, a=200, rto=100, probe=800, seg=500, cap=65536, rcap=65536, window=65536)
-node = deltat.Node(number, params, [deltat.Link(1, 300)], {{3 - number: 1}}, again=bool(again))
+node = deltat.Node(number, params, [deltat.Link(1, 300)], {{3 - number: 1}}, start=deltat.Start.AGAIN if again else deltat.Start.FIRST)
 end, count = time.monotonic() + seconds, 0
 with deltat.Udp(node, ({host!r}, port), {{3 - number: ({host!r}, to)}}) as udp:
     while time.monotonic() < end:
@@ -356,7 +359,7 @@ async def asynchronously() -> bool:
     chance = random.Random(9)
     is_bad = True
     with Between(lambda number, octets: chance.choices([0, 1, 2], [10, 75, 15])[0] if is_bad else 1) as link:
-        ends = [deltat.AsyncUdp(node_of(number, 3 - number, False, deltat.now()), (HOST, link.nodes[number - 1]), {3 - number: (HOST, link.set_port(number))}) for number in (1, 2)]
+        ends = [deltat.AsyncUdp(node_of(number, 3 - number, False, deltat.now()), (HOST, link.nodes[number - 1]), {3 - number: (HOST, link.port(number))}) for number in (1, 2)]
         answers: dict[bytes, asyncio.Event] = {}
         serving, hearing = asyncio.create_task(serve(ends[1])), asyncio.create_task(hear(ends[0], answers))
         await asyncio.gather(*(ask(ends[0], port, 25, answers) for port in range(10, 14)))
@@ -399,7 +402,7 @@ def unsure(cause: deltat.Cause, call: object, *words: object) -> bool:
 def serve_calls(link: Between, served: list[bytes]) -> None:
     """A service of two ports: one answers with the octets reversed, the other with nothing."""
     service = service_of(2, {20: deltat.PortKind.SERVICE, 21: deltat.PortKind.SERVICE})
-    with deltat.Udp(service, (HOST, link.nodes[1]), {1: (HOST, link.set_port(2))}) as udp:
+    with deltat.Udp(service, (HOST, link.nodes[1]), {1: (HOST, link.port(2))}) as udp:
         calls = deltat.Calls(udp)
 
         @calls.on(20)
@@ -416,7 +419,7 @@ def serve_calls(link: Between, served: list[bytes]) -> None:
 
 def calls_in_turn(link: Between, payloads: list[bytes]) -> bool:
     client = service_of(1, {10: deltat.PortKind.CALLER})
-    with deltat.Udp(client, (HOST, link.nodes[0]), {2: (HOST, link.set_port(1))}) as udp:
+    with deltat.Udp(client, (HOST, link.nodes[0]), {2: (HOST, link.port(1))}) as udp:
         calls = deltat.Calls(udp)
         answers = [calls.call(deltat.Flow(1, 10, 2, 20), it, 10.0) for it in payloads]
         right = unsure(deltat.Cause.TIMEOUT, calls.call, deltat.Flow(1, 10, 2, 21), b"silent", 1.5)
@@ -426,7 +429,7 @@ def calls_in_turn(link: Between, payloads: list[bytes]) -> bool:
 
 async def calls_at_once(link: Between, payloads: list[bytes]) -> bool:
     kinds = {1: {port: deltat.PortKind.CALLER for port in range(10, 14)}, 2: {20: deltat.PortKind.SERVICE}}
-    ends = {it: deltat.AsyncUdp(service_of(it, kinds[it]), (HOST, link.nodes[it - 1]), {3 - it: (HOST, link.set_port(it))}) for it in (1, 2)}
+    ends = {it: deltat.AsyncUdp(service_of(it, kinds[it]), (HOST, link.nodes[it - 1]), {3 - it: (HOST, link.port(it))}) for it in (1, 2)}
     client, server = deltat.AsyncCalls(ends[1]), deltat.AsyncCalls(ends[2])
 
     @server.on(20)
@@ -449,11 +452,11 @@ def reply_given_up(link: Between) -> bool:
     """Whether a service is told the flow of a request whose client went away before the reply."""
     flow = deltat.Flow(1, 10, 2, 20)
     service = service_of(2, {20: deltat.PortKind.SERVICE})
-    with deltat.Udp(service, (HOST, link.nodes[1]), {1: (HOST, link.set_port(2))}) as udp:
+    with deltat.Udp(service, (HOST, link.nodes[1]), {1: (HOST, link.port(2))}) as udp:
         calls = deltat.Calls(udp)
         calls.on(20)(lambda request: request.payload)
         client = service_of(1, {10: deltat.PortKind.CALLER})
-        with deltat.Udp(client, (HOST, link.nodes[0]), {2: (HOST, link.set_port(1))}) as asks:
+        with deltat.Udp(client, (HOST, link.nodes[0]), {2: (HOST, link.port(1))}) as asks:
             client.call(flow, b"and away", 10_000)
             asks.flush(deltat.now())
         calls.run((PARAMS.mpl + PARAMS.r + PARAMS.a) / 1000 + 3)
@@ -515,10 +518,10 @@ def recorded() -> bool:
 
     with tempfile.TemporaryDirectory() as folder, Between(rule) as link:
         nodes = {}
-        for number, most in ((1, deltat.MOST), (2, SHORT_RECORD)):
-            deltat.MOST = most
-            nodes[number] = deltat.Recorded(f"{folder}/{number}", number, PARAMS, [deltat.Link(1, CHARGE)], {3 - number: 1}, again=number == 2)
-        ends = {number: Failing(node, (HOST, link.nodes[number - 1]), {3 - number: (HOST, link.set_port(number))}) for number, node in nodes.items()}
+        for number, most in ((1, record.MOST), (2, SHORT_RECORD)):
+            record.MOST = most
+            nodes[number] = deltat.Recorded(f"{folder}/{number}", number, PARAMS, [deltat.Link(1, CHARGE)], {3 - number: 1}, start=deltat.Start(number))
+        ends = {number: Failing(node, (HOST, link.nodes[number - 1]), {3 - number: (HOST, link.port(number))}) for number, node in nodes.items()}
         came = exchanged(ends, chance, PARAMS.quiet_ms / 1000 + 6)
         for number, udp in ends.items():
             udp.close()
@@ -575,6 +578,27 @@ def compiled(compiler: str, name: str, folder: str) -> str | None:
     return None if built.returncode else f"{folder}/{name}-{compiler}"
 
 
+def users() -> bool:
+    """Whether the end of each call has the number that the program passed."""
+    if any("dt_service_call" in it for it in interface.differences_of_exports()):
+        print("users: not tried, since crates/dt_c has dt_service_call without `user`")
+        return True
+    client, server = service_of(1, {10: deltat.PortKind.CALLER}), service_of(2, {20: deltat.PortKind.SERVICE})
+    flow, at = deltat.Flow(1, 10, 2, 20), deltat.now()
+    made = {client.call(flow, b"%d" % user, 1000, user, at): user for user in (7, 0, (1 << 64) - 1)}
+    made[client.call(flow._replace(target_port=21), b"nobody", 1000, 5, at)] = 5
+    right = refused(deltat.InvalidArgument, client.call, flow, b"x", 1000, 1 << 64, at)
+    for it in client.datagrams():
+        server.receive(1, it.octets, at=at)
+    for it in server.events():
+        server.reply(it.token, it.payload, at)
+    for it in server.datagrams():
+        client.receive(1, it.octets, at=at)
+    client.tick(at + 1000)
+    ends = {it.call: it.user for it in client.events()}
+    return right and ends == made
+
+
 def examples() -> bool:
     compilers = [it for it in ("gcc", "clang") if shutil.which(it)]
     right = asked([sys.executable, str(TOP / "examples" / "echo.py"), "serve"])
@@ -606,7 +630,7 @@ def rust() -> bool:
 
 def main() -> int:
     words = sys.argv[2:] if named else sys.argv[1:]
-    tests = {"refusals": refusals, "whole": whole, "simulated": simulated, "processes": processes, "asynchronous": asynchronous, "recorded": recorded, "services": services, "examples": examples, "rust": rust}
+    tests = {"refusals": refusals, "whole": whole, "simulated": simulated, "processes": processes, "asynchronous": asynchronous, "recorded": recorded, "services": services, "users": users, "examples": examples, "rust": rust}
     failed = 0
     for name in words or tests:
         begun = time.monotonic()

@@ -38,6 +38,10 @@ if not os.path.exists(LIBRARY):
     skip(f"{LIBRARY} isn't there: make -C lib")
 sys.path.insert(0, given.bindings)
 import deltat  # noqa: E402
+from deltat import clock  # noqa: E402
+from deltat._c import NodeCounts, sized  # noqa: E402
+from deltat import node as node_module  # noqa: E402
+from deltat import udp as udp_module  # noqa: E402
 
 # as `tools/params.py 250 50 --shelf 2` has them: what the pages use
 PARAMS = deltat.Params(mpl=482, r=450, a=5, rto=90, probe=180, seg=1442, cap=65536, rcap=65536, window=65536)
@@ -76,7 +80,7 @@ def node_of(number: int, other: int, at: int | None = None, params: deltat.Param
 
 def caller_of(number: int, other: int, waiting: int = 1000, params: deltat.Params = PARAMS) -> deltat.Service:
     """A node whose ports 10 and 11 are callers'."""
-    limits = deltat.ServiceLimits(waiting=waiting)
+    limits = deltat.ServiceLimits(max_calls=waiting)
     it = deltat.Service(number, 1, params, LINKS, {other: 1}, start=deltat.Start.FIRST, limits=limits)
     it.set_port(10, deltat.PortKind.CALLER)
     it.set_port(11, deltat.PortKind.CALLER)
@@ -121,11 +125,15 @@ def line_of(it: subprocess.Popen[str], seconds: float = 20) -> str:
 # --- how a node starts
 
 
+def start_of(again: bool) -> deltat.Start:
+    return deltat.Start.AGAIN if again else deltat.Start.FIRST
+
+
 class FakeState:
     """A state that keeps nothing, and notes what is asked of it."""
 
     def __init__(self, again: bool, left: int | None = None) -> None:
-        self.again, self.left, self.life, self.notes = again, left, 7, []
+        self.start, self.left, self.life, self.notes = start_of(again), left, 7, []
 
     def check(self, number: int, params: deltat.Params) -> None:
         self.notes.append((number, params))
@@ -140,20 +148,20 @@ class FakeState:
         self.notes.append("closed")
 
 
-def again_is_said() -> None:
-    """a node is opened without `again`: it is refused, and told what to choose"""
+def start_is_chosen() -> None:
+    """a node is opened without a start: it is refused, and the error says what to choose"""
     with tempfile.TemporaryDirectory() as folder:
         for make in (
             lambda **how: deltat.Node(1, PARAMS, LINKS, {2: 1}, **how),
             lambda **how: deltat.Service(1, None if "state" in how else 1, PARAMS, LINKS, {2: 1}, **how),
             lambda **how: deltat.Recorded(f"{folder}/run", 1, PARAMS, LINKS, {2: 1}, **how),
         ):
-            with raises(TypeError, "start=deltat.Start.AGAIN if"):
+            with raises(TypeError, "start=Start.AGAIN if"):
                 make()
             with raises(TypeError, "exactly one"):
                 make(start=deltat.Start.AGAIN, state=FakeState(False))
-            for again in (False, True):
-                make(again=again).close()
+            for start in deltat.Start:
+                make(start=start).close()
 
 
 def state_is_asked() -> None:
@@ -236,10 +244,10 @@ def forked() -> None:
             "poll": lambda: client.poll(0),
             "flush": lambda: client.flush(0),
             "wake": lambda: client.node.wake,
-            "frames": lambda: list(client.node.datagrams()),
-            "happenings": lambda: list(client.node.events()),
+            "datagrams": lambda: list(client.node.datagrams()),
+            "events": lambda: list(client.node.events()),
             "counts": client.node.counts,
-            "kept_out": client.node.blocked_counts,
+            "blocked_counts": client.node.blocked_counts,
             "stop": client.node.stop,
             "tick": plain.tick,
             "reports": lambda: list(plain.reports()),
@@ -254,7 +262,7 @@ def forked() -> None:
                     raise type(why)(*why.args) from None
                 raise Wrong(f"{name} doesn't raise")
         holds(
-            client.socket.fileno() < 0 and client.node._exports.counts(memory).status == deltat.Status.NOT_OPEN,
+            client.socket.fileno() < 0 and client.node._exports.get_counts(memory, sized(NodeCounts)) == deltat.Status.NOT_OPEN,
             "the child's copies are open",
         )
         for it in (client, plain, record):
@@ -367,13 +375,13 @@ def units() -> None:
     at = deltat.now()
     number = caller.call(CALL, b"x", timeout_ms=5, at=at)
     caller.tick(at + 6)
-    holds(list(caller.events()) == [deltat.UnsureCall(number, deltat.Cause.TIMEOUT)], "5 ms aren't over")
+    holds(list(caller.events()) == [deltat.UnsureCall(number, 0, deltat.Cause.TIMEOUT)], "5 ms aren't over")
     with deltat.Udp(caller, (HOST, own_port()), {2: (HOST, own_port())}) as udp:
         begun = time.monotonic()
         with raises(deltat.Unsure):
             deltat.Calls(udp).call(CALL, b"x", timeout=0.3)
         holds(0.25 < time.monotonic() - begun < 5, f"0.3 s are {time.monotonic() - begun:.2f} s")
-        with raises(deltat.InvalidArgument, "s; it is below"):
+        with raises(deltat.InvalidArgument, "s; it must be below"):
             deltat.Calls(udp).call(CALL, b"x", timeout=float("inf"))
 
 
@@ -441,19 +449,19 @@ def other_link() -> None:
 class Noting(deltat.Node):
     """A node that notes what a datagram is said to have waited."""
 
-    def arrive(self, link: int, datagram: bytes, waited: int = 0, at: int | None = None) -> deltat.Status:
-        self.noted.append((at, waited))
-        return super().receive(link, datagram, waited, at)
+    def receive(self, link: int, datagram: bytes, waited_ms: int = 0, at: int | None = None) -> deltat.Status:
+        self.noted.append((at, waited_ms))
+        return super().receive(link, datagram, waited_ms, at)
 
 
 def slow_clock() -> None:
     """a program is stopped beside a reading of its clock, and a datagram comes meanwhile: it counts as old"""
-    real, stop, failed = deltat.now, 0.03, []
+    real, stop, failed = clock.now, 0.03, []
     for has_stamps in (True, False):
         for is_before in (True, False):
             for place in range(20):
                 failed += stopped_at(place, stop, is_before, has_stamps)
-    deltat.now = real
+    clock.now = real
     holds(not failed, f"{len(failed)} of 80 stops: {failed[0] if failed else ''}")
 
 
@@ -480,14 +488,14 @@ def stopped_at(place: int, stop: float, is_before: bool, has_stamps: bool) -> li
             value = int(read()) if is_before else value
         return value
 
-    usual = deltat.now, deltat._SO_TIMESTAMPNS
-    deltat.now, deltat._SO_TIMESTAMPNS = slow, usual[1] if has_stamps else socket.SO_REUSEADDR
+    usual = clock.now, udp_module.SO_TIMESTAMPNS
+    clock.now, udp_module.SO_TIMESTAMPNS = slow, usual[1] if has_stamps else socket.SO_REUSEADDR
     try:
         with peer, deltat.Udp(node, (HOST, port), {2: peer.getsockname()}) as udp:
             for _ in range(4):
                 udp.poll(0.001)
     finally:
-        deltat.now, deltat._SO_TIMESTAMPNS = usual
+        clock.now, udp_module.SO_TIMESTAMPNS = usual
     # (a moment is rounded down, and what was waited is rounded up)
     return [
         f"at reading {place}, {'before' if is_before else 'behind'} it, stamps {has_stamps}: "
@@ -759,7 +767,7 @@ def background_work() -> None:
         came = two.poll(0)
         asking.join()
         kinds = [it.kind.name for it in told if it.kind in (deltat.ReportKind.ACKNOWLEDGED, deltat.ReportKind.UNCERTAIN)]
-        holds(kinds == ["SETTLED"], f"the reports are {kinds}")
+        holds(kinds == ["ACKNOWLEDGED"], f"the reports are {kinds}")
         holds([it.octets for it in came] == [b"meanwhile"], f"{came} came")
 
 
@@ -914,7 +922,7 @@ def flood() -> None:
         grown, kept = memory_of(os.getpid()) - before, server.node.blocked_counts()
         print(f"  120,000 new flows: {grown} KiB, {kept}", flush=True)
         holds(grown < 60_000, f"it grew by {grown} KiB")
-        holds(kept.closed > 50_000 and kept.crowded > 10_000, f"{kept} were kept out")
+        holds(kept.closed_port > 50_000 and kept.too_many_flows > 10_000, f"{kept} were kept out")
         serving = echo_calls(server)
         time.sleep(PARAMS.quiet_ms / 1000 + 0.5)
         holds(deltat.Calls(client).call(deltat.Flow(1, 11, 2, 20), b"y", 5.0) == b"ok y", "it doesn't serve any more")
@@ -946,7 +954,7 @@ def guards() -> None:
     with deltat.Udp(server, (HOST, own_port()), {1: (HOST, own_port())}):
         server.set_port(30, deltat.PortKind.SERVICE)
         holds([admitted(server, port) for port in (20, 30, 31)] == [False, False, True], "the program's guard is gone")
-    usual, deltat.MOST_FLOWS = deltat.MOST_FLOWS, 2
+    usual, node_module.MOST_FLOWS = node_module.MOST_FLOWS, 2
     server, caller = server_of(2, [1]), caller_of(1, 2)
     caller.call(CALL, b"x", 1000)
     frame = bytearray(next(caller.datagrams()).octets)
@@ -964,12 +972,12 @@ def guards() -> None:
         for number in range(50, 52):
             server.add_route(number, 1)
         found.append(flows(2000))
-    deltat.MOST_FLOWS = usual
+    node_module.MOST_FLOWS = usual
     holds(found == [16, 32], f"{found} flows are admitted with one route, and more with three")
 
 
 CASES = [
-    again_is_said,
+    start_is_chosen,
     state_is_asked,
     forked,
     forked_loop,

@@ -4,7 +4,8 @@
 `tests/library.py [ARCHIVE] [--datagrams N]` takes the archive at that path; with no word it is the one that
 `./build --only dt_c` leaves in crates/dt_c/out, which it builds where there is none. The header is compiled alone too. Compilers are gcc and
 clang, languages C99, C11 and C++17, all with -Wall -Wextra -Werror; each program runs bare, and those of C99 also under
-valgrind and with the address and undefined-behaviour sanitizers, where the machine has them. The C files of lib/ are compiled by each compiler with these warnings, and linked:
+valgrind and with the address and undefined-behaviour sanitizers, where the machine has them. The C files of lib/
+are compiled by each compiler with these warnings, and linked:
 
 - layout.c: sizes and places of fields, by the compiler alone, as release/interface.py has them of the header; crates/dt_c
   proves the same sizes.
@@ -14,6 +15,7 @@ valgrind and with the address and undefined-behaviour sanitizers, where the mach
 - services.c: calls and replies, each of their answers, and each request for memory fails in turn.
 - handles.cpp: deltat.hpp, as C++17 and C++20, and without exceptions and RTTI; and the two programs of docs/library.md,
   examples/hello.c and hello.cpp, of 25 lines at most.
+- loops.c: the loops of a program, taken from the header's comments, over a wire that loses and with a clock that stops.
 - strangers.c: N random datagrams (1,000,000), after which the node takes as much memory as before, and some thousand
   flows from one peer; a million flows at a guard that lets a thousand in; and 200,000 that come and go, each with half a
   message for an inbox. In C99 alone.
@@ -31,6 +33,9 @@ from collections.abc import Iterator, Sequence
 from typing import NamedTuple
 
 from lib import TOP, skip
+
+sys.path.insert(0, str(TOP / "release"))
+import interface  # noqa: E402
 
 HERE = TOP / "tests" / "library"
 ARCHIVE = TOP / "crates" / "dt_c" / "out" / "libdt_c.a"
@@ -164,6 +169,22 @@ def try_hello(tally: Tally, driver: str, library: pathlib.Path, folder: pathlib.
         tally.run(f"hello.c, {driver}", [built])
 
 
+def try_loops(tally: Tally, driver: str, library: pathlib.Path, folder: pathlib.Path) -> None:
+    """The loops of the header, word for word."""
+    functions, node = interface.code("---- 2 THE LOOP OF A PROGRAM ----")
+    (service,) = interface.code("---- 11 SERVICES: REQUEST AND REPLY ----")
+    language = Language("C99", ("-std=c99",), (driver,))
+    # the second reads the clock after the look that found nothing, and has to fail
+    for way, loop in (("as it is", node), ("spoilt", node.replace("empty_at = looked_at;", "empty_at = now();"))):
+        room, built = folder / f"loops-{driver}-{way.split()[0]}", folder / f"loops-{driver}-{way.split()[0]}.out"
+        room.mkdir()
+        for name, text in (("node_functions", f"static {functions}"), ("node_loop", loop), ("service_loop", service)):
+            (room / f"{name}.inc").write_text(text)
+        more = [f"-I{room}", "-fsanitize=address,undefined", "-fno-sanitize-recover=all", *members(driver, folder), library]
+        if tally.run(f"loops.c {way}, {driver}", compiled(driver, language, [HERE / "loops.c"], built, more)):
+            tally.run(f"loops.c {way}, {driver}", [built] if way == "as it is" else ["sh", "-c", f"! {built} 2>/dev/null"])
+
+
 def is_short(path: pathlib.Path) -> bool:
     """Whether a program has at most 25 lines, none of them above 120 columns."""
     lines = path.read_text().splitlines()
@@ -211,6 +232,7 @@ def main() -> int:
                 try_program(tally, program, driver, language, library, folder)
         for driver in (it for it in CPLUS if shutil.which(it)):
             try_hello(tally, driver, library, folder)
+            try_loops(tally, driver, library, folder)
             if shutil.which(CPLUS[driver]):
                 try_handles(tally, CPLUS[driver], library, folder)
         for name in ("hello.c", "hello.cpp"):

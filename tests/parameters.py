@@ -85,7 +85,7 @@ def has_numbers_of(words: str, text: str) -> bool:
     first = [int(it) for it in numbers.split()[1:10]]
     delay, round_trip = words.split()
     if f"DT_NETWORK({delay}000, {round_trip}000)" in text and "dt_params_for(" in text:
-        # the library computes them, and tests/interface.py compares it with the tool
+        # the library computes them, and tests/params_for.py compares it with the tool
         return True
     found = re.search(r"PARAMS = (?:deltat\.Params\(|\{)(.*)[)}]", text)
     own = re.search(r"CHARGE = (\d+)", text)

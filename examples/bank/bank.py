@@ -34,7 +34,7 @@ BANK, CLIENTS = 100, 20
 PARAMS = deltat.Params(mpl=252, r=450, a=5, rto=90, probe=180, seg=1442, cap=65536, rcap=65536, window=65536)
 CHARGE = 244
 # a request that was sent at once and its answer are over after 2 (r + mpl) and the bank's time
-PATIENCE = 2.0
+TIMEOUT = 2.0
 DRAIN_MS = 15_000
 
 
@@ -108,7 +108,7 @@ class CallingClient(Client):
         """What was answered, or None: it is unsure. Where it is declined it waits, and tries again."""
         while True:
             try:
-                return self.calls.call(deltat.Flow(self.number, 10, BANK, 20), payload, PATIENCE).decode()
+                return self.calls.call(deltat.Flow(self.number, 10, BANK, 20), payload, TIMEOUT).decode()
             except deltat.Unsure:
                 return None
             except deltat.Declined as why:
@@ -170,7 +170,7 @@ class TcpClient(Client):
         self.is_unsure = False
         try:
             if self.stream is None:
-                self.stream = socket.create_connection((BANK_HOST, PORT), PATIENCE)
+                self.stream = socket.create_connection((BANK_HOST, PORT), TIMEOUT)
             self.is_unsure = True
             self.stream.sendall(request)
             answer = b""
@@ -196,7 +196,8 @@ def main() -> None:
         asyncio.run(serve_tcp(OVER_TCP[word](pathlib.Path(folder, "journal"))))
     else:
         number, until, seed = map(int, words)
-        (CallingClient if word == "ask" else TcpClient)(pathlib.Path(folder), number, until, seed).run()
+        kind: type[CallingClient | TcpClient] = CallingClient if word == "ask" else TcpClient
+        kind(pathlib.Path(folder), number, until, seed).run()
 
 
 if __name__ == "__main__":

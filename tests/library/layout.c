@@ -1,9 +1,11 @@
-/* Where the fields of each struct are, by the rules of C, and so in crates/dt_c: made by release/interface.py from include/deltat.h; to change it, change that.
+/* Where the fields of each struct are, by the rules of C, and so in crates/dt_c:
+ * made by release/interface.py from include/deltat.h; to change it, change that.
  * It has nothing to run. */
 #include "deltat.h"
 
 #define SIZE(type, octets) typedef char size_of_##type[sizeof(struct type) == (octets) ? 1 : -1]
-#define AT(type, field, octets) typedef char place_of_##type##_##field[offsetof(struct type, field) == (octets) ? 1 : -1]
+#define AT(type, field, octets) \
+    typedef char place_of_##type##_##field[offsetof(struct type, field) == (octets) ? 1 : -1]
 
 SIZE(dt_flow, 12);
 AT(dt_flow, source, 0);

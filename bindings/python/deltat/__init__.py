@@ -24,6 +24,8 @@ call raises `Forked`. Times, and arguments whose names end in `_ms`, are in ms; 
 The functions of the library are proved; this package, which calls them, is tested only. The library is looked for at
 DELTAT_LIBRARY, if that is set, then beside this file, in lib/ of the clone that has it, and in the system's places."""
 
+from typing import TYPE_CHECKING
+
 from . import _c
 from ._c import ABI_VERSION, MAX_DATAGRAM, MAX_PAYLOAD, Cause, Fault, InvalidReason, PortKind, ReportKind, Start, Status
 from ._library import library as _library
@@ -149,6 +151,9 @@ _FORMER = {
 }
 
 
-def __getattr__(name: str) -> object:
-    former = f"; interface {ABI_VERSION} has {_FORMER[name]} in its place" if name in _FORMER else ""
-    raise AttributeError(f"module 'deltat' has no attribute {name!r}{former}")
+# (a type checker would take any name for one of the package)
+if not TYPE_CHECKING:
+
+    def __getattr__(name: str) -> object:
+        former = f"; interface {ABI_VERSION} has {_FORMER[name]} in its place" if name in _FORMER else ""
+        raise AttributeError(f"module 'deltat' has no attribute {name!r}{former}")

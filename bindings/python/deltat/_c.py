@@ -177,6 +177,8 @@ class Route(ctypes.Structure):
 
 
 class NodeOptions(ctypes.Structure):
+    """`struct dt_node_options`."""
+
     _fields_ = [
         ("size", ctypes.c_uint32),
         ("node", ctypes.c_uint32),
@@ -190,6 +192,8 @@ class NodeOptions(ctypes.Structure):
 
 
 class OpenResult(ctypes.Structure):
+    """`struct dt_open_result`."""
+
     _fields_ = [
         ("value", ctypes.c_uint32),
         ("status", ctypes.c_uint8),
@@ -198,6 +202,8 @@ class OpenResult(ctypes.Structure):
 
 
 class ReceiveResult(ctypes.Structure):
+    """`struct dt_receive_result`."""
+
     _fields_ = [
         ("value", ctypes.c_uint32),
         ("status", ctypes.c_uint8),
@@ -206,6 +212,8 @@ class ReceiveResult(ctypes.Structure):
 
 
 class SendResult(ctypes.Structure):
+    """`struct dt_send_result`."""
+
     _fields_ = [
         ("quiet_until", ctypes.c_uint64),
         ("free", ctypes.c_uint32),
@@ -214,6 +222,8 @@ class SendResult(ctypes.Structure):
 
 
 class ReadResult(ctypes.Structure):
+    """`struct dt_read_result`."""
+
     _fields_ = [
         ("len", ctypes.c_size_t),
         ("status", ctypes.c_uint8),
@@ -224,6 +234,8 @@ class ReadResult(ctypes.Structure):
 
 
 class Message(ctypes.Structure):
+    """`struct dt_message`."""
+
     _fields_ = [
         ("size", ctypes.c_uint32),
         ("flow", Flow),
@@ -234,6 +246,8 @@ class Message(ctypes.Structure):
 
 
 class Datagram(ctypes.Structure):
+    """`struct dt_datagram`."""
+
     _fields_ = [
         ("size", ctypes.c_uint32),
         ("to", ctypes.c_uint32),
@@ -243,6 +257,8 @@ class Datagram(ctypes.Structure):
 
 
 class Report(ctypes.Structure):
+    """`struct dt_report`."""
+
     _fields_ = [
         ("size", ctypes.c_uint32),
         ("flow", Flow),
@@ -259,6 +275,8 @@ class Report(ctypes.Structure):
 
 
 class BlockedCounts(ctypes.Structure):
+    """`struct dt_blocked_counts`."""
+
     _fields_ = [
         ("closed_port", ctypes.c_uint64),
         ("too_many_flows", ctypes.c_uint64),
@@ -297,6 +315,8 @@ class FlowCounts(ctypes.Structure):
 
 
 class ServiceOptions(ctypes.Structure):
+    """`struct dt_service_options`."""
+
     _fields_ = [
         ("size", ctypes.c_uint32),
         ("life", ctypes.c_uint32),
@@ -316,6 +336,8 @@ class Token(ctypes.Structure):
 
 
 class CallResult(ctypes.Structure):
+    """`struct dt_call_result`."""
+
     _fields_ = [
         ("call", ctypes.c_uint64),
         ("quiet_until", ctypes.c_uint64),
@@ -326,6 +348,8 @@ class CallResult(ctypes.Structure):
 
 
 class ReplyResult(ctypes.Structure):
+    """`struct dt_reply_result`."""
+
     _fields_ = [
         ("free", ctypes.c_uint32),
         ("status", ctypes.c_uint8),
@@ -334,6 +358,8 @@ class ReplyResult(ctypes.Structure):
 
 
 class Event(ctypes.Structure):
+    """`struct dt_event`."""
+
     _fields_ = [
         ("size", ctypes.c_uint32),
         ("kind", ctypes.c_uint8),

@@ -148,8 +148,11 @@ abbrev pub again_of : NodeOptions → Option ℕ
 again_of o = if o.start_as == start_again then Some o.at else None
 
 -- what is reserved of each link is 0
+abbrev pub is_unfit : CLink → Bool
+is_unfit l = not (l.reserved == 0)
+
 abbrev pub has_fit_links : List CLink → Bool
-has_fit_links links = is_none (find (λ l. not (l.reserved == 0)) links)
+has_fit_links links = is_none (find is_unfit links)
 
 -- the options, and the size of the parameters beside them, are those that are known here
 abbrev pub is_fit : CParams → NodeOptions → Bool

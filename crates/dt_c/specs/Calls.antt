@@ -1,5 +1,5 @@
 -- The calls of the library. Each answers that the handle holds no node and changes nothing, or is the call of its endpoint.
-use Rattle.std.specs.Prelude.{◌≡◌, ◌≢◌, ◌⊎◌, ℕ, nat_le, Bool, true, false, List, [], ◌∷◌, ◌++◌, if◌then◌else◌, drop, length, Option, Some, None, IsNone, IsSome}
+use Rattle.std.specs.Prelude.{◌≡◌, ◌==◌, ◌⊎◌, ℕ, nat_le, Bool, true, false, List, [], ◌∷◌, ◌++◌, if◌then◌else◌, drop, length, Option, Some, None, IsNone, IsSome}
 use Rattle.dt_units.specs.Limits.{IsWithinLimits, first_out_of_range, value_of}
 use Rattle.dt_units.specs.declared.parameters.Params.{Params}
 use Rattle.dt_units.specs.Times.{quiet_time}
@@ -156,8 +156,8 @@ Opening row p o s t = (answer : Opened) × (row ≡ open_result answer) × Opens
 
 -- PARAMETERS ALONE: those within their limits, in a struct of the size that is known here
 abbrev pub RulesOf : Option Params → CParams → Type 0
-RulesOf (Some rules) p = (rules ≡ params_of p) × IsWithinLimits (params_of p) × (p.size ≡ params_size)
-RulesOf None p = IsSome (first_out_of_range (params_of p)) ⊎ (p.size ≢ params_size)
+RulesOf (Some rules) p = (rules ≡ params_of p) × IsWithinLimits (params_of p) × ((p.size == params_size) ≡ true)
+RulesOf None p = IsSome (first_out_of_range (params_of p)) ⊎ ((p.size == params_size) ≡ false)
 
 -- THE QUIET TIME
 abbrev pub QuietIs : ℕ → CParams → Type 0

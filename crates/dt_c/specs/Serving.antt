@@ -23,6 +23,7 @@ use Rattle.dt_service.specs.Calls as service
 use Rattle.dt_service_model.specs.Carrying.{carried_by}
 use Rattle.dt_c.specs.declared.c_structs.ReceiveResult.{ReceiveResult}
 use Rattle.dt_c.specs.declared.c_structs.NodeCounts.{NodeCounts}
+use Rattle.dt_c.specs.declared.c_structs.NodeOptions.{NodeOptions}
 use Rattle.dt_c.specs.declared.c_structs.CFlow.{CFlow}
 use Rattle.dt_c.specs.declared.c_structs.BlockedCounts.{BlockedCounts}
 use Rattle.dt_c.specs.declared.c_structs.Opened.{Opened}

@@ -1,7 +1,7 @@
 //! Arguments and results as they lie in C.
-ghost use Rattle.std.specs.Prelude.{◌≡◌, nat_le};
+ghost use Rattle.std.specs.Prelude.{◌≡◌, find, nat_le};
 ghost use Rattle.dt_reports.specs.Told.{told};
-ghost use Rattle.dt_c.specs.CStructs.{about, about_none, again_of, bad_report, blocked_counts, c_flow, c_report, capped, datagram, elsewhere, fault_result, faulty, field_number, flow_counts, flow_of, has_fit_links, is_fit, marked, message_in, message_of, message_status, message_with, no_flow, no_piece, node_counts, numbered, open_result, params_of, read_result, receive_result, received_as, refused_report, released, report_in, route, routed_status, send_result, sent_as, station_report, ticked_status, until_time, wake_time};
+ghost use Rattle.dt_c.specs.CStructs.{about, about_none, again_of, bad_report, blocked_counts, c_flow, c_report, capped, datagram, elsewhere, fault_result, faulty, field_number, flow_counts, flow_of, has_fit_links, is_fit, is_unfit, marked, message_in, message_of, message_status, message_with, no_flow, no_piece, node_counts, numbered, open_result, params_of, read_result, receive_result, received_as, refused_report, released, report_in, route, routed_status, send_result, sent_as, station_report, ticked_status, until_time, wake_time};
 
 use dt_endpoint::{
     Counts, Delivered, Guard, Octets, OutFrame, Received, Route, Routed, Sent, Ticked,
@@ -346,11 +346,18 @@ impl CRoute {
     }
 }
 
+/// The first link of which something reserved isn't 0.
+fn unfit_link(links: &[CLink]) -> Option<CLink>
+    ensures { result ≡ find is_unfit links.now }
+{
+    links.iter().copied().find(|link| link.reserved != 0)
+}
+
 /// Whether what is reserved of each link is 0.
 fn has_fit_links(links: &[CLink]) -> bool
     ensures { result ≡ has_fit_links links.now }
 {
-    links.iter().find(|link| link.reserved != 0).is_none()
+    unfit_link(links).is_none()
 }
 
 impl NodeOptions<'_> {

@@ -406,7 +406,10 @@ fn rules_of(params: &CParams) -> Option<Rules>
     if params.size != PARAMS_SIZE {
         return None;
     }
-    params.params().check().ok()
+    match params.params().check() {
+        Ok(rules) => Some(rules),
+        Err(_) => None,
+    }
 }
 
 /// How long a node is silent after it starts again, or 0 where a parameter is out of its range.

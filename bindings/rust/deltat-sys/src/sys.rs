@@ -887,7 +887,7 @@ pub struct dt_network {
     pub size: u32,
     /// links of the longest path: 1 to 256
     pub hops: u32,
-    /// longest delay of a link, with all queues, under load, in microseconds: at most a day
+    /// longest delay of a link in microseconds, with all queues, under load: at most a day
     pub delay_us: u64,
     /// a usual round trip from end to end: at most a day
     pub round_trip_us: u64,
