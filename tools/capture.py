@@ -1,13 +1,12 @@
 #!/usr/bin/env python3
-"""The datagrams of a recorded run as a capture file: `tools/capture.py SCRIPT TRACE > FILE.pcapng`.
+"""Writes the datagrams of a recorded run as a capture file: `tools/capture.py SCRIPT TRACE > FILE.pcapng`.
 
-SCRIPT is the script of a node, and TRACE what `deltat trace` wrote of its run. What came stands in the
-trace. What left follows from running it again: the lines of `deltat retrace` say which packets were made
-and when they left, and the script has their octets. FILE opens in Wireshark, with tools/wireshark/deltat.lua.
+SCRIPT is the script of a node, and TRACE is what `deltat trace` wrote of its run. The trace has the datagrams that
+arrived. A repeated run gives those that left: the lines of `deltat retrace` say which packets were made and when they
+left, and the script has their octets. FILE opens in Wireshark, with tools/wireshark/deltat.lua.
 
-Moments are those of the node: a datagram that left has that of its turn, and one that came that of the
-turn which it was handed to. A datagram whose give failed never left, and isn't there. Each packet is
-marked as inbound or outbound."""
+Times are the node's: a datagram that left has the time of its step, and one that arrived has the time of the step that
+received it. A datagram that the socket didn't take isn't in the file. Each packet is marked as inbound or outbound."""
 import argparse
 import pathlib
 import shutil

@@ -1,14 +1,13 @@
 #!/usr/bin/env python3
-"""Counts what the log of a node tells, as it comes on standard input, in Prometheus' text format:
+"""Reads the log of a node from standard input and writes counters in Prometheus' text format:
 `deltat node < SCRIPT | tools/counters.py --file PATH`, or `--listen PORT`, or both.
 
-The file is replaced as a whole each time, so that a reader never finds a part of it; a node exporter's
-textfile collector can take it. The port is one of 127.0.0.1, and serves any path. Without either the
-counts go to standard output when the log ends. `--through` passes the log on to standard output.
+The file is replaced as a whole each time, so that a reader never finds a part of it; a node exporter's textfile
+collector can take it. The port is one of 127.0.0.1, and serves any path. With neither, the counters are written to
+standard output when the log ends. `--through` passes the log on to standard output.
 
-Counts go by node and flow, by node and link, or by node. Memory is bounded: of --flows flows and nodes
-each there are counts of their own, those of all others go together as "other", and a line that is longer
-than any that a node writes is skipped."""
+Counters are by node and flow, by node and link, or by node. Memory is bounded: --flows flows and nodes each have their
+own counters, all others are counted together as "other", and a line that is longer than any of a node is skipped."""
 import argparse
 import os
 import re

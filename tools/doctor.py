@@ -1,13 +1,12 @@
 #!/usr/bin/env python3
-"""Says what in the scripts of a network's nodes endangers the promise or the traffic.
+"""Reports what in the scripts of a network's nodes endangers the promise or the traffic.
 
     tools/doctor.py SCRIPT .. [--drift PPM] [--mtu N] [--delay MS] [--round-trip MS]
 
-Give the scripts of all nodes at once. What is found stands line by line, as FILE:LINE: SEVERITY: TEXT; and
-then what to do. The severities: `danger`, the promise itself is in danger; `warning`, packets get lost that
-need not; `note`, what a flow can carry at most.
+Give the scripts of all nodes at once. Each finding is a line, FILE:LINE: SEVERITY: TEXT; WHAT TO DO. The severities:
+`danger`, the promise itself is in danger; `warning`, packets get lost needlessly; `note`, how much a flow can carry.
 
-Ends with 1 where the promise is in danger, with 2 where a script can't be read or is refused, else with 0."""
+Ends with 1 if the promise is in danger, with 2 if a script can't be read or is refused, and otherwise with 0."""
 import argparse
 import itertools
 import math

@@ -1,5 +1,5 @@
 #!/usr/bin/env python3
-"""One description of a network gives the script of each node, and the schedule of the same world.
+"""Makes the script of each node, and the schedule of the same world, from one description of a network.
 
     tools/fleet.py NETWORK.toml --out FOLDER
 
@@ -8,32 +8,32 @@ The description:
     [network]            # each line of this part may be left out
     round_trip = 40      # a usual round trip, in ms; without it twice the delay of the longest path
     drift = 100          # how wrong a clock may be, in parts in a million
-    tries = 5            # how often a segment goes out before it is given up
+    tries = 5            # transmissions of a segment before it is given up
     room = 65536         # the octets that a flow may have under way, and unread
-    shelf = 64           # packets that come too early are kept, and live long enough for it; 0 for none
+    shelf = 64           # how many packets that arrive too early are kept; 0 for none
     stop = 60000         # when the nodes stop, in ms
 
     [[node]]
     name = "depot"       # its script is depot.script
     number = 1
     address = "depot.example:4001"
-    start = "first"      # or "again", which is what it is without this line
+    start = "first"      # or "again", as without this line
     commands = ["at 1000 send 1:10>2:20 be 68656c6c6f"]   # may be left out
 
     [[link]]
     ends = ["depot", "mast"]
-    delay = 30           # the longest that a packet may be under way, in ms, queues of the network included
-    mtu = 1500           # may be left out, as all that follows
-    drift = 200          # of the clocks at its ends, where that of the network isn't right
+    delay = 30           # the longest time that a packet may be under way, in ms, with all queues of the network
+    mtu = 1500           # may be left out, as all below
+    drift = 200          # of the clocks at its ends, if it differs from the network's
     pace = 0             # the least time between two packets, in ms
     queue = 8            # how many packets may wait for that
 
-A packet goes to each node by the links of the least delay together. The parameters, the charges and the
-routes follow from the delays; host names are looked up once, here. FOLDER gets NAME.script for each node,
-and network.schedule for `deltat replay`, with what is sent and read, and no arrivals. The last line that is
-written says how tools/doctor.py looks at the scripts.
+A packet travels to each node by the path of the least delay. The parameters, the charges and the routes follow from the
+delays; host names are looked up once, here. FOLDER gets NAME.script for each node, and network.schedule for
+`deltat replay`, with the sends and reads, and no arrivals. The last line of the output is the command of tools/doctor.py
+for these scripts.
 
-Ends with 0, or with 2 where the description can't be read or has no such network."""
+Ends with 0, or with 2 if the description can't be read or has a fault."""
 import argparse
 import heapq
 import re
