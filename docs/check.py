@@ -673,13 +673,10 @@ def names_in_c() -> set[str]:
 
 
 def names_in_python() -> set[str]:
-    """What the modules hand out, once they stand on the tables that are made from the header."""
-    found: set[str] = set()
-    for path in sorted((TOP / "bindings" / "python").rglob("*.py")):
-        listed = re.search(r"^__all__ = \[(.*?)\]", text_of(path), re.DOTALL | re.MULTILINE)
-        found |= set(re.findall(r"\"(\w+)\"", listed[1])) if listed else set()
-    is_new = any("_deltat_c" in text_of(it) for it in (TOP / "bindings" / "python").rglob("deltat*.py"))
-    return found if is_new else set()
+    """What the package hands out."""
+    path = TOP / "bindings" / "python" / "deltat" / "__init__.py"
+    listed = re.search(r"^__all__ = \[(.*?)\]", text_of(path) if path.is_file() else "", re.DOTALL | re.MULTILINE)
+    return set(re.findall(r"\"(\w+)\"", listed[1])) if listed else set()
 
 
 def names_in_rust() -> set[str]:

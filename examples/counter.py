@@ -15,9 +15,8 @@ import sys
 sys.path.insert(0, str(pathlib.Path(__file__).resolve().parent.parent / "bindings" / "python"))
 import deltat  # noqa: E402
 
-# what `tools/params.py 50 20` tells, and the charge that it tells less the wait in this machine's socket, which is measured
-PARAMS = deltat.Params(mpl=102, r=195, a=2, rto=39, probe=78, seg=1442, cap=65536, rcap=65536, window=65536)
-CHARGE = 74
+# as `tools/params.py 50 20` prints them, but the wait in this machine's socket, of 20 ms, is measured and not charged
+PARAMS, CHARGE = deltat.Params.for_network(deltat.Network(delay_us=50_000, round_trip_us=20_000))
 
 
 def answer(sums: dict[str, int], message: deltat.Message) -> str:
@@ -32,7 +31,7 @@ def answer(sums: dict[str, int], message: deltat.Message) -> str:
 async def serve() -> None:
     sums: dict[str, int] = collections.Counter()
     with deltat.State(deltat.usual_folder("deltat-counter", 2), 2, PARAMS) as state:
-        node = deltat.Node(2, PARAMS, [deltat.Link(1, CHARGE)], {1: 1}, state=state)
+        node = deltat.Node(2, PARAMS, [deltat.Link(1, CHARGE - 20)], {1: 1}, state=state)
         async with deltat.AsyncUdp(node, ("127.0.0.1", 4002), {1: ("127.0.0.1", 4001)}) as udp:
             async for message in udp:
                 await udp.send(message.flow.reversed(), answer(sums, message).encode())

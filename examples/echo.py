@@ -13,8 +13,8 @@ sys.path.insert(0, str(pathlib.Path(__file__).resolve().parent.parent / "binding
 import deltat  # noqa: E402
 
 HOSTS = {1: ("127.0.0.1", 4001), 2: ("127.0.0.1", 4002)}
-# as `tools/params.py 250 50 --shelf 2` tells them
-PARAMS = deltat.Params(mpl=482, r=450, a=5, rto=90, probe=180, seg=1442, cap=65536, rcap=65536, window=65536)
+# as `tools/params.py 250 50 --shelf 2` prints them
+PARAMS, CHARGE = deltat.Params.for_network(deltat.Network(delay_us=250_000, round_trip_us=50_000, shelf=2))
 
 
 def opened_state(number: int) -> deltat.State:
@@ -23,7 +23,7 @@ def opened_state(number: int) -> deltat.State:
 
 def opened_udp(state: deltat.State) -> deltat.Udp:
     peers = {other: address for other, address in HOSTS.items() if other != state.node}
-    node = deltat.Node(state.node, PARAMS, [deltat.Link(1, charge=294)], {other: 1 for other in peers}, state=state)
+    node = deltat.Node(state.node, PARAMS, [deltat.Link(1, CHARGE)], {other: 1 for other in peers}, state=state)
     return deltat.Udp(node, HOSTS[state.node], peers)
 
 
@@ -35,10 +35,10 @@ def serve() -> None:
 
 def ask(words: list[str]) -> None:
     with opened_state(1) as state, opened_udp(state) as udp:
-        udp.settle(state.silence() / 1000)
+        udp.run_for(state.silence() / 1000)
         for word in words:
             udp.send(deltat.Flow(1, 10, 2, 20), word.encode())
-        for message in udp.settle(1):
+        for message in udp.run_for(1):
             print(message.octets.decode())
 
 

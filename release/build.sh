@@ -127,7 +127,9 @@ if [ -f "$libraries/libdeltat.so.2" ]; then
     ln -s libdeltat.so.2 "$root/usr/lib/$triplet/libdeltat.so"
     ln -s ../../../../include/deltat.h "$doc/include/deltat.h"
     ln -s ../../../../include/deltat.hpp "$doc/include/deltat.hpp"
-    install -m 644 "$top/bindings/python/_deltat_c.py" "$top/bindings/python/deltat.py" "$top/bindings/python/deltat_record.py" "$top/bindings/python/deltat_service.py" "$top/bindings/python/deltat_state.py" "$root/usr/lib/python3/dist-packages"
+    package=$root/usr/lib/python3/dist-packages/deltat
+    install -d "$package"
+    install -m 644 "$top"/bindings/python/deltat/*.py "$top/bindings/python/deltat/py.typed" "$package"
     # crates by path: their build finds the library by its deltat.pc
     mkdir -p "$root/usr/share/deltat"
     cp -R "$top/bindings/rust" "$root/usr/share/deltat/rust"

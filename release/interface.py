@@ -23,7 +23,7 @@ from typing import NamedTuple
 TOP = Path(__file__).resolve().parent.parent
 HEADER = TOP / "include" / "deltat.h"
 RUST = TOP / "bindings" / "rust" / "deltat-sys" / "src" / "sys.rs"
-PYTHON = TOP / "bindings" / "python" / "_deltat_c.py"
+PYTHON = TOP / "bindings" / "python" / "deltat" / "_c.py"
 LAYOUT = TOP / "tests" / "library" / "layout.c"
 NAMES = TOP / "lib" / "names.c"
 CPLUS = TOP / "include" / "deltat.hpp"
@@ -478,53 +478,60 @@ def python_enum(it: Enum) -> Iterator[str]:
 
 
 def python_function(it: Function) -> Iterator[str]:
-    """The row of a function, its arguments below one another if they are many."""
+    """A row of the table of functions: a line where it fits."""
     result = "None" if it.result == Type("void") else python_type(it.result)
     arguments = [python_type(one.type) for one in it.parameters]
-    if len(line := f"        [{', '.join(arguments)}],") > 110:
-        line = "\n".join(["        [", *(f"            {one}," for one in arguments), "        ],"])
-    yield from [f'    "{it.name}": (', f"        {result},", line, "    ),"]
+    line = f'    "{it.name}": ({result}, [{", ".join(arguments)}]),'
+    if len(line) <= 120:
+        yield line
+    else:
+        yield from [f'    "{it.name}": (', f"        {result},", "        [", *(f"            {one}," for one in arguments), "        ],", "    ),"]
 
 
-# what a module needs beside the tables
 PYTHON_HEAD = """from __future__ import annotations
 
 import ctypes
 import enum
+from typing import Any, TypeVar
 """
-PYTHON_SIZED = '''def sized(struct: type[ctypes.Structure]) -> ctypes.Structure:
-    """A struct of this type, all 0 but its size."""
+
+PYTHON_END = """
+Struct = TypeVar("Struct", bound=ctypes.Structure)
+
+
+def sized(struct: type[Struct]) -> Struct:
+    \"""A struct of this type, all 0 but its size.\"""
     it = struct()
     it.size = ctypes.sizeof(struct)
     return it
 
 
-# Each function: its result, and its arguments.
-FUNCTIONS: dict[str, tuple[object, list[object]]] = {'''
-PYTHON_LOAD = '''}
-
-
-def load(path: str) -> ctypes.CDLL:
-    """Loads the library. Raises OSError if there is none, and ImportError if it has another interface."""
-    library = ctypes.CDLL(path)
-    # (interface 1 had it by another name)
-    version = getattr(library, "dt_abi_version", None)
-    found = version() if version is not None else 1
+def load(path: str) -> ctypes.PyDLL:
+    \"""Loads the library. A call of it takes some microseconds and never blocks, so it keeps the interpreter's lock: no
+    other thread calls the same handle meanwhile, and none forks the process. Raises OSError if the library can't be
+    loaded, and ImportError if it has another interface.\"""
+    library = ctypes.PyDLL(path)
+    # (interface 1 has the function by another name)
+    version = getattr(library, "dt_abi_version", None) or getattr(library, "dt_abi", None)
+    if version is None:
+        raise ImportError(f"{path} isn't libdeltat: it has no dt_abi_version")
+    found = version()
     if found != ABI_VERSION:
         raise ImportError(
-            f"{path} has interface {found}, this module is for {ABI_VERSION}; install both from one release"
+            f"{path} has interface {found}, and this package needs {ABI_VERSION}; install library and package of one "
+            "release"
         )
     for name, (result, arguments) in FUNCTIONS.items():
         function = getattr(library, name)
         function.restype, function.argtypes = result, arguments
     return library
-'''
+"""
 
 
 def python() -> str:
     """The tables of ctypes."""
     it = header()
-    lines = ['"""The interface of libdeltat for ctypes.', "", f'{MADE_BY.capitalize()}."""', PYTHON_HEAD]
+    lines = ['"""The interface of libdeltat for ctypes.', "", f'{MADE_BY.capitalize()}."""', *PYTHON_HEAD.splitlines(), ""]
     for constant in it.constants:
         value = f'"{constant.value}"' if isinstance(constant.value, str) else f"{constant.value:_}"
         lines.append(f"{constant.name.removeprefix('DT_')} = {value}")
@@ -533,10 +540,10 @@ def python() -> str:
         lines += python_enum(enum)
     for struct in it.structs:
         lines += python_struct(struct)
-    lines.append(PYTHON_SIZED)
+    lines += ["# Each function: its result, and its arguments.", "FUNCTIONS: dict[str, tuple[Any, list[Any]]] = {"]
     for function in it.functions:
         lines += python_function(function)
-    return "\n".join([*lines, PYTHON_LOAD])
+    return "\n".join([*lines, "}"]) + "\n" + PYTHON_END
 
 
 # --- C

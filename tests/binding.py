@@ -17,6 +17,7 @@ these fails, and with 77 where there is no library:
   while its messages aren't read, and who waits when it is closed is told.
 - services: a service of two ports answers 30 calls over such a link, each once; a call that nobody replies to is unsure;
   a service is told of a reply to a client that is away; 100 calls at once in a loop of asyncio are answered, and one that waits when it is closed is unsure.
+- users: the end of each call has the number that the program passed to it.
 - examples: examples/echo.py asks itself, and examples/echo.c, which is compiled first, at the ports that they name; and
   tools/dtcat.py asks examples/counter.py and examples/counter.c.
 
@@ -46,10 +47,10 @@ named = [it for it in sys.argv[1:2] if it.endswith(".so") or ".so." in it]
 os.environ["DELTAT_LIBRARY"] = os.path.abspath(named[0]) if named else str(LIBRARY)
 if not os.path.exists(os.environ["DELTAT_LIBRARY"]):
     skip(f"{os.environ['DELTAT_LIBRARY']} isn't there: make -C lib")
-sys.path.insert(0, str(TOP / "bindings" / "python"))
+sys.path[:0] = [str(TOP / "bindings" / "python"), str(TOP / "release")]
 import deltat  # noqa: E402
-import deltat_record  # noqa: E402
-import deltat_service  # noqa: E402
+import interface  # noqa: E402
+from deltat import record  # noqa: E402
 
 PARAMS = deltat.Params(mpl=1000, r=3000, a=200, rto=100, probe=800, seg=500, cap=65536, rcap=65536, window=65536)
 CHARGE = 90
@@ -58,7 +59,7 @@ SHORT_RECORD = 1_500_000
 
 
 def node_of(number: int, other: int, again: bool, at: int) -> deltat.Node:
-    return deltat.Node(number, PARAMS, [deltat.Link(1, CHARGE)], {other: 1}, again=again, at=at)
+    return deltat.Node(number, PARAMS, [deltat.Link(1, CHARGE)], {other: 1}, start=deltat.Start.AGAIN if again else deltat.Start.FIRST, at=at)
 
 
 def refused(error: type[Exception], call: object, *words: object, **named: object) -> bool:
@@ -73,49 +74,49 @@ def refused(error: type[Exception], call: object, *words: object, **named: objec
 def refusals() -> bool:
     node, flow = node_of(1, 2, False, 0), deltat.Flow(1, 10, 2, 20)
     right = [
-        refused(deltat.BadParameter, deltat.Node, 1, deltat.Params(1, 3000, 200, 500, 800, 100, 4096, 4096, 512), [], {}, again=False),
-        refused(deltat.BadParameter, deltat.Node, 1 << 32, PARAMS, [], {}, again=False),
-        refused(deltat.BadParameter, node.send, flow, b"", at=1),
-        refused(deltat.BadParameter, node.send, flow, bytes(65537), at=1),
-        refused(deltat.BadParameter, node.send, flow.reversed(), b"hello", at=1),
-        refused(deltat.BadParameter, node.send, deltat.Flow(1, 65536, 2, 20), b"hello", at=1),
-        refused(deltat.BadParameter, node.read, flow, at=1),
+        refused(deltat.InvalidArgument, deltat.Node, 1, deltat.Params(1, 3000, 200, 500, 800, 100, 4096, 4096, 512), [], {}, start=deltat.Start.FIRST),
+        refused(deltat.InvalidArgument, deltat.Node, 1 << 32, PARAMS, [], {}, start=deltat.Start.FIRST),
+        refused(deltat.InvalidArgument, node.send, flow, b"", at=1),
+        refused(deltat.InvalidArgument, node.send, flow, bytes(65537), at=1),
+        refused(deltat.InvalidArgument, node.send, flow.reversed(), b"hello", at=1),
+        refused(deltat.InvalidArgument, node.send, deltat.Flow(1, 65536, 2, 20), b"hello", at=1),
+        refused(deltat.InvalidArgument, node.read, flow, at=1),
         refused(ValueError, deltat.Flow.parse, "1:10>2"),
         deltat.Flow.parse("1:10>2:20") == flow and str(flow) == "1:10>2:20",
-        node.arrive(1, b"not a frame", at=1) is deltat.Status.BAD,
-        node.arrive(9, bytes(40), at=1) is deltat.Status.REFUSED,
-        list(node.frames()) == [] and node.wake is None,
+        node.receive(1, b"not a frame", at=1) is deltat.Status.MALFORMED,
+        node.receive(9, bytes(40), at=1) is deltat.Status.INVALID,
+        list(node.datagrams()) == [] and node.wake is None,
     ]
     node.send(flow, bytes(65536), at=2)
     right.append(refused(deltat.Full, node.send, flow, b"one more", at=2))
     late = node_of(1, 2, True, 100)
-    right.append(refused(deltat.Quiet, late.send, flow, b"too early", at=100 + PARAMS.quiet - 1))
-    late.send(flow, b"in time", at=100 + PARAMS.quiet)
-    frame = next(late.frames())
+    right.append(refused(deltat.Quiet, late.send, flow, b"too early", at=100 + PARAMS.quiet_ms - 1))
+    late.send(flow, b"in time", at=100 + PARAMS.quiet_ms)
+    frame = next(late.datagrams())
     right.append(frame.to == 2 and b"in time" in frame.octets)
-    right.append(node_of(2, 1, False, 0).arrive(1, frame.octets, waited=1000, at=5) is deltat.Status.STALE)
+    right.append(node_of(2, 1, False, 0).receive(1, frame.octets, waited_ms=1000, at=5) is deltat.Status.EXPIRED)
     guarded = node_of(2, 1, False, 0)
-    for ports, flows, status in (([21], 9, "KEPT_OUT"), ([20, 21], 0, "KEPT_OUT"), ([20], 1, "DONE"), ([20], 0, "DONE"), ([], 9, "KEPT_OUT"), (None, 0, "DONE")):
-        guarded.guard(ports, flows)
-        right.append(guarded.arrive(1, frame.octets, at=5) is deltat.Status[status])
-    right.append(guarded.kept_out() == (2, 1))
+    for ports, flows, status in (([21], 9, "BLOCKED"), ([20, 21], 0, "BLOCKED"), ([20], 1, "OK"), ([20], 0, "OK"), ([], 9, "BLOCKED"), (None, 0, "OK")):
+        guarded.set_guard(ports, flows)
+        right.append(guarded.receive(1, frame.octets, at=5) is deltat.Status[status])
+    right.append(guarded.blocked_counts() == (2, 1))
     octets = b"".join(it.to_bytes(4, "big") for it in dataclasses.astuple(PARAMS))
     right += [PARAMS.fingerprint == int.from_bytes(hashlib.sha256(octets).digest()[:8], "big")]
-    right.append(refused(deltat.BadParameter, lambda: dataclasses.replace(PARAMS, mpl=1).fingerprint))
-    lonely = deltat.Node(1, PARAMS, [deltat.Link(1, CHARGE)], {}, again=False, at=0)
-    right.append(lonely.totals(flow) is None)
-    lonely.follow(flow)
+    right.append(refused(deltat.InvalidArgument, lambda: dataclasses.replace(PARAMS, mpl=1).fingerprint))
+    lonely = deltat.Node(1, PARAMS, [deltat.Link(1, CHARGE)], {}, start=deltat.Start.FIRST, at=0)
+    right.append(lonely.flow_counts(flow) is None)
+    lonely.count_flow(flow)
     lonely.send(flow, b"nowhere", at=1)
-    right.append(lonely.totals(flow) == deltat.Totals(taken=7, settled=0, uncertain=0, accepted=0, read=0))
-    right += [list(lonely.frames()) == [], refused(deltat.BadParameter, lonely.add_route, 2, 9)]
+    right.append(lonely.flow_counts(flow) == deltat.FlowCounts(7, octets_acknowledged=0, octets_uncertain=0, octets_accepted=0, octets_read=0))
+    right += [list(lonely.datagrams()) == [], refused(deltat.InvalidArgument, lonely.add_route, 2, 9)]
     lonely.add_route(2, 1)
     lonely.tick(200)
-    right += [[it.to for it in lonely.frames()] == [2], refused(deltat.BadParameter, lonely.add_route, 2, 1)]
-    right.append(lonely.counts() == deltat.Counts(came=0, refused=0, left=1, taken=7, settled=0, uncertain=0, accepted=0, read=0))
+    right += [[it.to for it in lonely.datagrams()] == [2], refused(deltat.InvalidArgument, lonely.add_route, 2, 1)]
+    right.append(lonely.counts() == deltat.NodeCounts(0, datagrams_refused=0, datagrams_out=1, octets_queued=7, octets_acknowledged=0, octets_uncertain=0, octets_accepted=0, octets_read=0))
     node.close()
     node.close()
-    right += [refused(deltat.Spent, node.follow, flow), refused(deltat.Spent, node.totals, flow)]
-    right += [refused(deltat.Spent, node.tick, 5), refused(deltat.Spent, node.counts), refused(deltat.Spent, node.add_route, 3, 1)]
+    right += [refused(deltat.Stopped, node.count_flow, flow), refused(deltat.Stopped, node.flow_counts, flow)]
+    right += [refused(deltat.Stopped, node.tick, 5), refused(deltat.Stopped, node.counts), refused(deltat.Stopped, node.add_route, 3, 1)]
     return all(right)
 
 
@@ -123,19 +124,19 @@ def taken(nodes: list[deltat.Node], at: int, is_lost: bool = False) -> list[tupl
     """What waits at one of two nodes comes to the other, or is lost. The messages that node 2 has then, by their ports."""
     for node, other in (nodes, nodes[::-1]):
         node.tick(at)
-        for frame in node.frames():
+        for frame in node.datagrams():
             if not is_lost:
-                other.arrive(1, frame.octets, at=at)
+                other.receive(1, frame.octets, at=at)
     found = [(it.flow.source_port, it.octets, it.gap) for it in nodes[1].messages(at)]
-    for frame in nodes[1].frames():
+    for frame in nodes[1].datagrams():
         if not is_lost:
-            nodes[0].arrive(1, frame.octets, at=at)
+            nodes[0].receive(1, frame.octets, at=at)
     return found
 
 
 def whole() -> bool:
     longest = 150_000
-    nodes, flow, found = [node_of(1, 2, False, 0), deltat.Node(2, PARAMS, [deltat.Link(1, CHARGE)], {1: 1}, again=False, at=0, longest=longest)], deltat.Flow(1, 10, 2, 20), []
+    nodes, flow, found = [node_of(1, 2, False, 0), deltat.Node(2, PARAMS, [deltat.Link(1, CHARGE)], {1: 1}, start=deltat.Start.FIRST, at=0, longest=longest)], deltat.Flow(1, 10, 2, 20), []
     octets, at = random.Random(3).randbytes(longest), 0
     for place in range(0, longest, 50_000):
         nodes[0].send(flow, octets[place : place + 50_000], place == 0, place == 100_000, at=at)
@@ -154,11 +155,11 @@ def whole() -> bool:
     wanted = [(10, octets, True), (10, b"next", False), (11, b"other", True), (10, b"behind", True), (10, b"last", False)]
     if found != wanted:
         print(f"whole: {[(port, it[:10], len(it), gap) for port, it, gap in found]} came")
-    right = found == wanted and nodes[1].too_long == 0
-    nodes = [node_of(1, 2, False, 0), deltat.Node(2, PARAMS, [deltat.Link(1, CHARGE)], {1: 1}, again=False, at=0, longest=5)]
+    right = found == wanted and nodes[1].dropped_too_long == 0
+    nodes = [node_of(1, 2, False, 0), deltat.Node(2, PARAMS, [deltat.Link(1, CHARGE)], {1: 1}, start=deltat.Start.FIRST, at=0, longest=5)]
     for it in (b"longer", b"short", b"longest", b"end"):
         nodes[0].send(flow, it, at=1)
-    return right and taken(nodes, 1) == [(10, b"short", True), (10, b"end", True)] and nodes[1].too_long == 2
+    return right and taken(nodes, 1) == [(10, b"short", True), (10, b"end", True)] and nodes[1].dropped_too_long == 2
 
 
 class Run:
@@ -172,7 +173,7 @@ class Run:
         self.life, self.came = {1: 0, 2: 0}, []
 
     def flush(self, number: int) -> None:
-        for frame in self.nodes[number].frames():
+        for frame in self.nodes[number].datagrams():
             copies = self.chance.choices([0, 1, 2, 3], [15, 65, 15, 5])[0]
             for _ in range(copies):
                 heapq.heappush(self.links, (self.at + self.chance.randrange(CHARGE), next(self.count), frame.to, frame.octets))
@@ -203,7 +204,7 @@ class Run:
             self.restart(self.chance.choice([1, 2]))
         elif self.links and what < 0.8:
             self.at, _, to, octets = heapq.heappop(self.links) if self.links[0][0] >= self.at else (self.at, *heapq.heappop(self.links)[1:])
-            self.nodes[to].arrive(1, octets, at=self.at)
+            self.nodes[to].receive(1, octets, at=self.at)
             self.take(to)
         else:
             self.at = min([self.at + self.chance.choice([1, 20, 100, 7000]), *(it[0] for it in self.links[:1])])
@@ -241,7 +242,7 @@ sys.path.insert(0, {path!r})
 import deltat
 number, port, to, again, seconds = (int(word) for word in sys.argv[1:6])
 params = deltat.Params(mpl=1000, r=3000, a=200, rto=100, probe=800, seg=500, cap=65536, rcap=65536, window=65536)
-node = deltat.Node(number, params, [deltat.Link(1, 300)], {{3 - number: 1}}, again=bool(again))
+node = deltat.Node(number, params, [deltat.Link(1, 300)], {{3 - number: 1}}, start=deltat.Start.AGAIN if again else deltat.Start.FIRST)
 end, count = time.monotonic() + seconds, 0
 with deltat.Udp(node, ({host!r}, port), {{3 - number: ({host!r}, to)}}) as udp:
     while time.monotonic() < end:
@@ -250,11 +251,11 @@ with deltat.Udp(node, ({host!r}, port), {{3 - number: ({host!r}, to)}}) as udp:
             count += 1
         except (deltat.Full, deltat.Quiet):
             pass
-        for message in udp.settle(0.02):
+        for message in udp.run_for(0.02):
             print(message.octets.split(b"\\0")[0].decode(), len(message.octets), flush=True)
-    for message in udp.settle(1.5):
+    for message in udp.run_for(1.5):
         print(message.octets.split(b"\\0")[0].decode(), len(message.octets), flush=True)
-print("sent", count, "unsent", udp.unsent, flush=True)
+print("sent", count, "unsent", udp.not_sent, flush=True)
 """
 
 
@@ -374,64 +375,64 @@ async def asynchronously() -> bool:
             end.close()
         told = await asyncio.gather(*waiting, return_exceptions=True)
         print(f"asynchronous: {sum(it.is_set() for it in answers.values())} of 100 were answered")
-        return right and all(isinstance(it, deltat.Spent) for it in told)
+        return right and all(isinstance(it, deltat.Stopped) for it in told)
 
 
 def asynchronous() -> bool:
     return asyncio.run(asynchronously())
 
 
-def service_of(number: int, ports: dict[int, deltat_service.Kind]) -> deltat_service.Service:
-    service = deltat_service.Service(number, 1, PARAMS, [deltat.Link(1, CHARGE)], {3 - number: 1}, again=False)
+def service_of(number: int, ports: dict[int, deltat.PortKind]) -> deltat.Service:
+    service = deltat.Service(number, 1, PARAMS, [deltat.Link(1, CHARGE)], {3 - number: 1}, start=deltat.Start.FIRST)
     for port, kind in ports.items():
-        service.port(port, kind)
+        service.set_port(port, kind)
     return service
 
 
-def unsure(cause: deltat_service.Cause, call: object, *words: object) -> bool:
+def unsure(cause: deltat.Cause, call: object, *words: object) -> bool:
     """Whether a call is unsure for this cause."""
     try:
         call(*words)
-    except deltat_service.Unsure as why:
+    except deltat.Unsure as why:
         return why.cause is cause
     return False
 
 
 def serve_calls(link: Between, served: list[bytes]) -> None:
     """A service of two ports: one answers with the octets reversed, the other with nothing."""
-    service = service_of(2, {20: deltat_service.Kind.SERVICE, 21: deltat_service.Kind.SERVICE})
+    service = service_of(2, {20: deltat.PortKind.SERVICE, 21: deltat.PortKind.SERVICE})
     with deltat.Udp(service, (HOST, link.nodes[1]), {1: (HOST, link.port(2))}) as udp:
-        calls = deltat_service.Calls(udp)
+        calls = deltat.Calls(udp)
 
         @calls.on(20)
-        def backwards(request: deltat_service.Request) -> bytes:
+        def backwards(request: deltat.Request) -> bytes:
             served.append(request.payload)
             return request.payload[::-1]
 
         @calls.on(21)
-        def silent(request: deltat_service.Request) -> None:
+        def silent(request: deltat.Request) -> None:
             served.append(request.payload)
 
         calls.run(3)
 
 
 def calls_in_turn(link: Between, payloads: list[bytes]) -> bool:
-    client = service_of(1, {10: deltat_service.Kind.CALLER})
+    client = service_of(1, {10: deltat.PortKind.CALLER})
     with deltat.Udp(client, (HOST, link.nodes[0]), {2: (HOST, link.port(1))}) as udp:
-        calls = deltat_service.Calls(udp)
+        calls = deltat.Calls(udp)
         answers = [calls.call(deltat.Flow(1, 10, 2, 20), it, 10.0) for it in payloads]
-        right = unsure(deltat_service.Cause.PATIENCE, calls.call, deltat.Flow(1, 10, 2, 21), b"silent", 1.5)
-        right = refused(deltat.BadParameter, calls.call, deltat.Flow(1, 11, 2, 20), b"from a plain port") and right
+        right = unsure(deltat.Cause.TIMEOUT, calls.call, deltat.Flow(1, 10, 2, 21), b"silent", 1.5)
+        right = refused(deltat.InvalidArgument, calls.call, deltat.Flow(1, 11, 2, 20), b"from a plain port") and right
         return right and answers == [it[::-1] for it in payloads]
 
 
 async def calls_at_once(link: Between, payloads: list[bytes]) -> bool:
-    kinds = {1: {port: deltat_service.Kind.CALLER for port in range(10, 14)}, 2: {20: deltat_service.Kind.SERVICE}}
+    kinds = {1: {port: deltat.PortKind.CALLER for port in range(10, 14)}, 2: {20: deltat.PortKind.SERVICE}}
     ends = {it: deltat.AsyncUdp(service_of(it, kinds[it]), (HOST, link.nodes[it - 1]), {3 - it: (HOST, link.port(it))}) for it in (1, 2)}
-    client, server = deltat_service.AsyncCalls(ends[1]), deltat_service.AsyncCalls(ends[2])
+    client, server = deltat.AsyncCalls(ends[1]), deltat.AsyncCalls(ends[2])
 
     @server.on(20)
-    async def backwards(request: deltat_service.Request) -> bytes:
+    async def backwards(request: deltat.Request) -> bytes:
         await asyncio.sleep(0.01)
         return request.payload[::-1]
 
@@ -443,17 +444,17 @@ async def calls_at_once(link: Between, payloads: list[bytes]) -> bool:
     for end in ends.values():
         end.close()
     told, = await asyncio.gather(waiting, return_exceptions=True)
-    return answers == [it[::-1] for it in payloads] and isinstance(told, deltat_service.Unsure) and told.cause is deltat_service.Cause.CLOSED
+    return answers == [it[::-1] for it in payloads] and isinstance(told, deltat.Unsure) and told.cause is deltat.Cause.STOPPED
 
 
 def reply_given_up(link: Between) -> bool:
     """Whether a service is told the flow of a request whose client went away before the reply."""
     flow = deltat.Flow(1, 10, 2, 20)
-    service = service_of(2, {20: deltat_service.Kind.SERVICE})
+    service = service_of(2, {20: deltat.PortKind.SERVICE})
     with deltat.Udp(service, (HOST, link.nodes[1]), {1: (HOST, link.port(2))}) as udp:
-        calls = deltat_service.Calls(udp)
+        calls = deltat.Calls(udp)
         calls.on(20)(lambda request: request.payload)
-        client = service_of(1, {10: deltat_service.Kind.CALLER})
+        client = service_of(1, {10: deltat.PortKind.CALLER})
         with deltat.Udp(client, (HOST, link.nodes[0]), {2: (HOST, link.port(1))}) as asks:
             client.call(flow, b"and away", 10_000)
             asks.flush(deltat.now())
@@ -516,18 +517,18 @@ def recorded() -> bool:
 
     with tempfile.TemporaryDirectory() as folder, Between(rule) as link:
         nodes = {}
-        for number, most in ((1, deltat_record.MOST), (2, SHORT_RECORD)):
-            deltat_record.MOST = most
-            nodes[number] = deltat_record.Recorded(f"{folder}/{number}", number, PARAMS, [deltat.Link(1, CHARGE)], {3 - number: 1}, again=number == 2)
+        for number, most in ((1, record.MOST), (2, SHORT_RECORD)):
+            record.MOST = most
+            nodes[number] = deltat.Recorded(f"{folder}/{number}", number, PARAMS, [deltat.Link(1, CHARGE)], {3 - number: 1}, start=deltat.Start(number))
         ends = {number: Failing(node, (HOST, link.nodes[number - 1]), {3 - number: (HOST, link.port(number))}) for number, node in nodes.items()}
-        came = exchanged(ends, chance, PARAMS.quiet / 1000 + 6)
+        came = exchanged(ends, chance, PARAMS.quiet_ms / 1000 + 6)
         for number, udp in ends.items():
             udp.close()
             with open(f"{folder}/{number}", "rb") as given, open(f"{folder}/{number}.log", "rb") as log:
                 ran, told = subprocess.run([str(PROGRAM), "retrace"], stdin=given, capture_output=True), log.read()
             words = {line.split(b" ")[2] for line in told.splitlines()[:-1]}
             size = os.path.getsize(f"{folder}/{number}")
-            print(f"recorded: node {number} told {told.count(10)} lines of {len(words)} kinds, in {size} octets; {udp.unsent} frames weren't sent")
+            print(f"recorded: node {number} told {told.count(10)} lines of {len(words)} kinds, in {size} octets; {udp.not_sent} frames weren't sent")
             wanted = {b"unsent", b"bad", b"read", b"resent"} if number == 1 else {b"refused", b"quiet"}
             right = right and (ran.returncode, ran.stdout) == (0, told) and wanted <= words and (number == 1 or size <= SHORT_RECORD)
     print(f"recorded: {came} messages came")
@@ -576,6 +577,27 @@ def compiled(compiler: str, name: str, folder: str) -> str | None:
     return None if built.returncode else f"{folder}/{name}-{compiler}"
 
 
+def users() -> bool:
+    """Whether the end of each call has the number that the program passed."""
+    if any("dt_service_call" in it for it in interface.differences_of_exports()):
+        print("users: not tried, since crates/dt_c has dt_service_call without `user`")
+        return True
+    client, server = service_of(1, {10: deltat.PortKind.CALLER}), service_of(2, {20: deltat.PortKind.SERVICE})
+    flow, at = deltat.Flow(1, 10, 2, 20), deltat.now()
+    made = {client.call(flow, b"%d" % user, 1000, user, at): user for user in (7, 0, (1 << 64) - 1)}
+    made[client.call(flow._replace(target_port=21), b"nobody", 1000, 5, at)] = 5
+    right = refused(deltat.InvalidArgument, client.call, flow, b"x", 1000, 1 << 64, at)
+    for it in client.datagrams():
+        server.receive(1, it.octets, at=at)
+    for it in server.events():
+        server.reply(it.token, it.payload, at)
+    for it in server.datagrams():
+        client.receive(1, it.octets, at=at)
+    client.tick(at + 1000)
+    ends = {it.call: it.user for it in client.events()}
+    return right and ends == made
+
+
 def examples() -> bool:
     compilers = [it for it in ("gcc", "clang") if shutil.which(it)]
     right = asked([sys.executable, str(TOP / "examples" / "echo.py"), "serve"])
@@ -585,14 +607,14 @@ def examples() -> bool:
             counter, echo = (compiled(compiler, name, folder) for name in ("counter", "echo"))
             right = counter is not None and counted([counter]) and right
             # the nodes of the service before have to be forgotten: those of this one are other lives
-            time.sleep(PARAMS.quiet / 1000)
+            time.sleep(PARAMS.quiet_ms / 1000)
             right = echo is not None and asked([echo]) and right
     return right
 
 
 def main() -> int:
     words = sys.argv[2:] if named else sys.argv[1:]
-    tests = {"refusals": refusals, "whole": whole, "simulated": simulated, "processes": processes, "asynchronous": asynchronous, "recorded": recorded, "services": services, "examples": examples}
+    tests = {"refusals": refusals, "whole": whole, "simulated": simulated, "processes": processes, "asynchronous": asynchronous, "recorded": recorded, "services": services, "users": users, "examples": examples}
     failed = 0
     for name in words or tests:
         begun = time.monotonic()

@@ -11,9 +11,9 @@ its variant minbase has, and one that has python3, man, pkg-config, a C compiler
   their state folders. Then it is removed, and nothing is left.
 - In the second, the blocks of the other pages for users are run, with the library where `make -C lib` has made it; a
   program in C is compiled by pkg-config, and a client in Python asks it; the programs in C and C++ of the library's page
-  are compiled by pkg-config and by CMake; man shows each man page. Then systemd is
-  started there, as the first process of namespaces and of a cgroup of its own: the unit's node starts as `first`, is
-  killed, and is started as `again`; a script that is refused isn't started once more.
+  are compiled by pkg-config and by CMake, and pip installs the wheel into an environment of its own; man shows each man
+  page. Then systemd is started there, as the first process of namespaces and of a cgroup of its own: the unit's node
+  starts as `first`, is killed, and is started as `again`; a script that is refused isn't started once more.
 
 Neither has a network but for its own loopback. Skipped where there is no root, no debootstrap, or no tree after
 MAKING seconds, as without a network.
@@ -36,7 +36,7 @@ SUITE = "bookworm"
 MIRROR = "http://deb.debian.org/debian"
 # how long the making of a tree may take, and what else is done in one
 MAKING, DOING = 800, 300
-ADDED = "python3 man-db pkg-config gcc g++ cmake make libc6-dev systemd"
+ADDED = "python3 python3-venv man-db pkg-config gcc g++ cmake make libc6-dev systemd"
 INSIDE = "DELTAT_TEST_INSIDE"
 # with mounts and a network of its own
 ALONE = ("unshare", "--mount", "--propagation", "private", "--net")
@@ -64,6 +64,13 @@ timeout 30 /root/echo &
 sleep 1
 python3 examples/echo.py ask hello world
 kill %1
+"""
+# the wheel of the Python package, in an environment of its own
+WHEEL = """python3 -m venv /root/environment
+/root/environment/bin/pip install --no-index --quiet /root/deltat-*.whl
+cd /
+/root/environment/bin/python -c 'import deltat; print(deltat.__file__.startswith("/root/environment/"))'
+/root/environment/bin/python /usr/share/doc/deltat/examples/hello.py
 """
 # the two programs of docs/library.md, by pkg-config and by CMake
 HELLO = """cd /root/copy/examples
@@ -249,8 +256,11 @@ def library_cases(root: Path) -> list[Case]:
         return [("the library", True, "it isn't made here")]
     (root / "root" / "asks.py").write_text(ASKS)
     asks, echo, hello = within(root, "python3 asks.py"), within(root, COMPILED), within(root, HELLO)
+    run("sh", str(TOP / "release" / "wheel.sh"), str(root / "root"))
+    wheel = within(root, WHEEL)
     return [
-        ("the Python module, where it is installed", asks.stdout == "[b'hello']\n", asks.stderr[-300:]),
+        ("the wheel, by pip, and examples/hello.py", (wheel.returncode, wheel.stdout) == (0, "True\nhello\n"), wheel.stdout + wheel.stderr[-300:]),
+        ("the Python package, where it is installed", asks.stdout == "[b'hello']\n", asks.stderr[-300:]),
         ("a C program by its pkg-config file, and a client in Python", (echo.returncode, echo.stdout) == (0, "olleh\ndlrow\n"), echo.stdout + echo.stderr[-300:]),
         ("the programs of the library's page, by pkg-config and by CMake", (hello.returncode, hello.stdout) == (0, "hello\n" * 4), hello.stdout + hello.stderr[-300:]),
     ]

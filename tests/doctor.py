@@ -59,30 +59,30 @@ DEFECTS: dict[str, tuple[list[list[str]], list[str], int]] = {
     "a peer that doesn't name this one": (
         [ONE, with_line(TWO, 4, "peer 1 127.0.0.1:4009 50 0")],
         [
-            "1:4: warning: 2 has no peer at 127.0.0.1:4001, so node 2 drops what comes from here; give it a line `peer L 127.0.0.1:4001 CHARGE PACE`",
-            "2:4: warning: no script is of a node at 127.0.0.1:4009; give that node's script too, or mend the address",
+            "1:4: warning: 2 has no peer at 127.0.0.1:4001, so node 2 drops packets from here; give it a line `peer L 127.0.0.1:4001 CHARGE PACE`",
+            "2:4: warning: no script has a node at 127.0.0.1:4009; give that node's script too, or correct the address",
         ],
         0,
     ),
     "no way back": (
         [ONE, TWO[:4] + TWO[5:]],
-        ["1:5: warning: node 2 has no way back here: packets for node 1 come to node 2, which has no route there; give 2 a line `route 1 L`"],
+        ["1:5: warning: node 2 has no way back here: packets for node 1 arrive at node 2, which has no route there; give 2 a line `route 1 L`"],
         0,
     ),
     "no way on": (
         [FAR_ONE, FAR_TWO, MIDDLE[:6] + MIDDLE[7:]],
         [
-            "1:5: warning: packets for node 2 come to node 3, which has no route there; give 3 a line `route 2 L`",
-            "2:5: warning: node 1 has no way back here: packets for node 2 come to node 3, which has no route there; give 3 a line `route 2 L`",
+            "1:5: warning: packets for node 2 arrive at node 3, which has no route there; give 3 a line `route 2 L`",
+            "2:5: warning: node 1 has no way back here: packets for node 2 arrive at node 3, which has no route there; give 3 a line `route 2 L`",
         ],
         0,
     ),
     "a way round": (
         [FAR_ONE, FAR_TWO, with_line(MIDDLE, 7, "route 2 1")],
         [
-            "1:5: warning: packets for node 2 go round by node 1; let the routes end there",
-            "2:5: warning: node 1 has no way back here: packets for node 2 go round by node 1; let the routes end there",
-            "3:7: warning: packets for node 2 go round by node 3; let the routes end there",
+            "1:5: warning: packets for node 2 loop through node 1; change the routes so that they end there",
+            "2:5: warning: node 1 has no way back here: packets for node 2 loop through node 1; change the routes so that they end there",
+            "3:7: warning: packets for node 2 loop through node 3; change the routes so that they end there",
         ],
         0,
     ),
@@ -100,13 +100,13 @@ DEFECTS: dict[str, tuple[list[list[str]], list[str], int]] = {
     "a shelf that it pays for": ([ONE, with_line(TWO, 4, "peer 1 127.0.0.1:4001 497 0\nshelf 1")], [], 0),
     "a small charge": (
         [with_line(ONE, 4, "peer 1 127.0.0.1:4002 44 0"), TWO],
-        ["1:4: danger: link 1 charges 44 ms, and 45 may pass: 20 ms in the sending machine, 20 in the socket, 3 of whole milliseconds, 2 of drift; let it charge the link's longest delay and 45 ms"],
+        ["1:4: danger: link 1 charges 44 ms, and a packet may take 45: 20 ms in the sending machine, 20 in the socket, 3 of whole milliseconds, 2 of drift; set its charge to the link's longest delay and 45 ms"],
         1,
     ),
     "a charge that will do": ([with_line(ONE, 4, "peer 1 127.0.0.1:4002 45 0"), TWO], [], 0),
     "a long segment": (
         [with_line(ONE, 1, changed(6, 1443)), TWO],
-        ["1:1: warning: a segment of 1443 octets makes packets of 1501, and the MTU is 1500, so they go in fragments, which may be put together wrongly; let seg be at most 1442"],
+        ["1:1: warning: a segment of 1443 octets makes packets of 1501, and the MTU is 1500, so they are sent in fragments, which may be joined wrongly; set seg to at most 1442"],
         0,
     ),
     "a wide window": (
@@ -116,7 +116,7 @@ DEFECTS: dict[str, tuple[list[list[str]], list[str], int]] = {
     ),
     "an address twice": (
         [with_line(ONE, 4, "peer 1 127.0.0.1:4002 50 0\npeer 2 127.0.0.1:4002 60 0"), TWO],
-        ["1:5: danger: link 2 has the address of link 1, and what comes from there is charged 50 ms; let each link have an address of its own"],
+        ["1:5: danger: link 2 has the address of link 1, so packets from there are charged 50 ms; give each link an address of its own"],
         1,
     ),
     "a send without a route": (
@@ -127,23 +127,23 @@ DEFECTS: dict[str, tuple[list[list[str]], list[str], int]] = {
     "a script alone": (
         [ONE],
         [
-            "1:4: warning: no script is of a node at 127.0.0.1:4002; give that node's script too, or mend the address",
-            "1:5: warning: no script is of node 2; give that node's script too, or mend the number",
+            "1:4: warning: no script has a node at 127.0.0.1:4002; give that node's script too, or correct the address",
+            "1:5: warning: no script has node 2; give that node's script too, or correct the number",
         ],
         0,
     ),
     "one address for two nodes": (
         [FAR_ONE, with_line(FAR_TWO, 3, "local 127.0.0.1:4001"), with_line(MIDDLE, 5, "peer 2 127.0.0.1:4009 50 0")],
-        ["2:3: warning: 127.0.0.1:4001 is also that of 1:3; give each node an address of its own", "3:5: warning: no script is of a node at 127.0.0.1:4009; give that node's script too, or mend the address"],
+        ["2:3: warning: 127.0.0.1:4001 is also the address at 1:3; give each node an address of its own", "3:5: warning: no script has a node at 127.0.0.1:4009; give that node's script too, or correct the address"],
         0,
     ),
 }
 # what a flow carries at most: what is asked for, and the note
 CEILINGS = [
-    ([], PARAMS, "40.2 KB/s by its room each round trip, where a round trip is 102 ms; that is the longest; give --round-trip for a usual one"),
-    (["--round-trip", "10"], PARAMS, "410 KB/s by its room each round trip, where a round trip is 10 ms"),
-    (["--round-trip", "10"], changed(6, 1), "6.4 KB/s by 64 segments each round trip, where a round trip is 10 ms"),
-    (["--round-trip", "0.01"], "params 1000 3000 200 500 800 1442 65536 65536 512 2147483648", "58.4 MB/s by 536870912 octets each spacing of 9200 ms, where a round trip is 0.01 ms"),
+    ([], PARAMS, "40.2 KB/s by its room each round trip, if a round trip is 102 ms; that is the longest; give --round-trip for a usual one"),
+    (["--round-trip", "10"], PARAMS, "410 KB/s by its room each round trip, if a round trip is 10 ms"),
+    (["--round-trip", "10"], changed(6, 1), "6.4 KB/s by 64 segments each round trip, if a round trip is 10 ms"),
+    (["--round-trip", "0.01"], "params 1000 3000 200 500 800 1442 65536 65536 512 2147483648", "58.4 MB/s by 536870912 octets each spacing of 9200 ms, if a round trip is 0.01 ms"),
 ]
 # refused lines, and their faults; the program has the same ones
 REFUSED = [
@@ -187,7 +187,7 @@ def doctor(scripts: list[list[str]], *options: str) -> tuple[int, list[str]]:
 def refused(deltat: str, lines: list[str], fault: str) -> tuple[bool, str]:
     """Whether the tool refuses a script, and the program with the same fault."""
     status, said = doctor([lines])
-    right = [f"1:{fault}; the program refuses this line, see docs/formats.md"]
+    right = [f"1:{fault}; the program refuses this line; docs/formats.md explains the fault"]
     ran = subprocess.run([deltat, "node"], input="\n".join(lines) + "\n", capture_output=True, text=True, check=False)
     program_says = f"line {fault.replace(': error', '')}"
     return (status, said, ran.returncode, ran.stdout.strip()) == (2, right, 3, program_says), "" if said == right else f"{said} {ran.stdout}"
@@ -227,11 +227,11 @@ def params(deltat: str) -> list[tuple[str, bool, str]]:
     ]
     found.append(("params follow", ran.stdout.splitlines() == right, ""))
     bad = [
-        (["-1", "5"], "argument DELAY: -1 isn't from 0 to 86400000"),
+        (["-1", "5"], "argument DELAY: it is -1; it must be from 0 to 86400000"),
         (["x", "5"], "argument DELAY: invalid number value: 'x'"),
         (["5"], "the following arguments are required: ROUND-TRIP"),
-        (["5", "5", "--mtu", "58"], "params.py: an MTU of 58 octets has no room for an octet behind 58 of headers"),
-        (["86000000", "5", "--hops", "2"], "params.py: the life of a packet would be longer than a day"),
+        (["5", "5", "--mtu", "58"], "params.py: the MTU is 58 octets; it must be more than 58, which headers take"),
+        (["86000000", "5", "--hops", "2"], "params.py: a packet would live for more than a day; delays must be shorter, or hops fewer"),
     ]
     for words, why in bad:
         ran = subprocess.run([*tool, *words], capture_output=True, text=True, check=False)
@@ -252,7 +252,7 @@ def main() -> int:
         text = f"1:5: note: a flow to node 2 carries at most {right}"
         cases.append((f"ceiling {right.split(',', maxsplit=1)[0]}", status == 0 and text in said, "" if text in said else "\n".join(said)))
     status, said = doctor([ONE, TWO], "--delay", "6")
-    more = "6 of the link; let it charge the link's longest delay and 45 ms"
+    more = "6 of the link; set its charge to the link's longest delay and 45 ms"
     cases.append(("a delay that is known", status == 1 and len([it for it in said if it.endswith(more)]) == 2, ""))
     cases += [(f"refused {fault}", *refused(deltat, lines, fault)) for lines, fault in REFUSED]
     status, said = doctor([ONE], "missing.script")

@@ -237,15 +237,15 @@ class Network:
         it = self.numbers
         params = deltat.Params(it.mpl, it.r, it.a, it.rto, it.probe, it.seg, it.cap, it.rcap, it.window, it.run_limit, it.start)
         mine = [deltat.Link(link, *costs) for link, costs in self.links.items()]
-        self.nodes = {ME: deltat.Node(ME, params, mine, {2: 1, 3: 2, FAR: 1}, again=self.again, at=0)}
+        self.nodes = {ME: deltat.Node(ME, params, mine, {2: 1, 3: 2, FAR: 1}, start=deltat.Start.AGAIN if self.again else deltat.Start.FIRST, at=0)}
         for link, (number, other) in enumerate(((2, 3), (3, 2)), 1):
-            self.nodes[number] = deltat.Node(number, params, [deltat.Link(1, *self.links[link])], {ME: 1, other: 1}, again=False, at=0)
+            self.nodes[number] = deltat.Node(number, params, [deltat.Link(1, *self.links[link])], {ME: 1, other: 1}, start=deltat.Start.FIRST, at=0)
         self.under_way: list[tuple[int, int, int, int, bytes]] = []
         self.commands: list[str] = []
         self.trace = ["@ 0"]
 
     def flush(self, number: int) -> None:
-        for frame in self.nodes[number].frames():
+        for frame in self.nodes[number].datagrams():
             to = ME if number != ME else PEERS[frame.link - 1]
             for _ in range(self.chance.choices([0, 1, 2], [15, 70, 15])[0]):
                 link = frame.link if number == ME else number - 1
@@ -258,7 +258,7 @@ class Network:
         try:
             way = self.deltat.Flow(flow.from_node, flow.from_port, flow.to_node, flow.to_port)
             self.nodes[number].send(way, octets, "b" in marks, "e" in marks, self.at)
-        except (self.deltat.Full, self.deltat.Quiet, self.deltat.BadParameter):
+        except (self.deltat.Full, self.deltat.Quiet, self.deltat.InvalidArgument):
             pass
         if number == ME:
             self.commands.append(f"at {self.at} send {word(flow)} {marks} {octets.hex()}")
@@ -286,7 +286,7 @@ class Network:
             self.flush(it)
         while self.under_way and self.under_way[0][0] <= self.at:
             _, _, to, link, octets = heapq.heappop(self.under_way)
-            self.nodes[to].arrive(link if to == ME else 1, octets, at=self.at)
+            self.nodes[to].receive(link if to == ME else 1, octets, at=self.at)
             self.flush(to)
             if to == ME:
                 self.trace += [f"< {link} {octets.hex()}", f"@ {self.at}"]

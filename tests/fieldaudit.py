@@ -302,12 +302,12 @@ def notes(deltat: str) -> list[tuple[str, bool, str]]:
 
 
 BAD = {
-    "a trace": ("@ 0\n< -\n", "x.log:1: a line of a trace; run it by `retrace`, and give its log"),
-    "a replay": ("0 1 took 1:1>2:2 5\n0 lost 0\n", "x.log:2: a line of `replay`; its log goes to `deltat audit` as it is"),
-    "two nodes": ("0 1 took 1:1>2:2 5\n0 2 nothing 1:1>2:2\n", "x.log:2: a line of node 2, and the lines before are of node 1; give a log for each node"),
-    "a refused script": ("line 3: word\n", "x.log:1: the script was refused: line 3: word"),
-    "other text": ("hello\n", "x.log:1: no line of a log: hello"),
-    "a short line": ("0 1 sent 1:1>2:2 0\n", "x.log:1: no line of a log: 0 1 sent 1:1>2:2 0"),
+    "a trace": ("@ 0\n< -\n", "x.log:1: this is a line of a trace; run the trace with `retrace`, and give its log"),
+    "a replay": ("0 1 took 1:1>2:2 5\n0 lost 0\n", "x.log:2: this is a line of a log of `replay`; give that log to `deltat audit` itself"),
+    "two nodes": ("0 1 took 1:1>2:2 5\n0 2 nothing 1:1>2:2\n", "x.log:2: this is a line of node 2, and the earlier lines are of node 1; give a log for each node"),
+    "a refused script": ("line 3: word\n", "x.log:1: the node's script was refused: line 3: word; leave this log out"),
+    "other text": ("hello\n", "x.log:1: this isn't a line of a log: hello; give the log of a node"),
+    "a short line": ("0 1 sent 1:1>2:2 0\n", "x.log:1: this isn't a line of a log: 0 1 sent 1:1>2:2 0; give the log of a node"),
 }
 
 
@@ -318,9 +318,9 @@ def bad(deltat: str) -> list[tuple[str, bool, str]]:
         for name, (text, right) in BAD.items():
             path.write_text(text)
             status, said = audited(deltat, [path])
-            found.append((name, (status, said) == (2, f"{folder}/{right}"), "" if said.endswith(right) else said))
+            found.append((name, (status, said) == (2, f"fieldaudit.py: {folder}/{right}"), "" if said.endswith(right) else said))
         status, said = audited(deltat, [Path(folder) / "y.log"])
-        found.append(("no file", (status, said) == (2, f"{folder}/y.log: No such file or directory"), ""))
+        found.append(("no file", (status, said) == (2, f"fieldaudit.py: {folder}/y.log: No such file or directory"), ""))
     return found
 
 

@@ -33,13 +33,15 @@ reads.add_argument("--bindings", default=str(TOP / "bindings" / "python"), metav
 reads.add_argument("--list", action="store_true", help="print the cases, and run none")
 reads.add_argument("cases", nargs="*", metavar="CASE")
 given = reads.parse_args()
-LIBRARY = os.environ.setdefault("DELTAT_LIBRARY", str(TOP / "lib" / "libdeltat.so.0"))
+LIBRARY = os.environ.setdefault("DELTAT_LIBRARY", str(TOP / "lib" / "libdeltat.so.2"))
 if not os.path.exists(LIBRARY):
     skip(f"{LIBRARY} isn't there: make -C lib")
 sys.path.insert(0, given.bindings)
 import deltat  # noqa: E402
-import deltat_record  # noqa: E402
-import deltat_service as service  # noqa: E402
+from deltat import clock  # noqa: E402
+from deltat._c import NodeCounts, sized  # noqa: E402
+from deltat import node as node_module  # noqa: E402
+from deltat import udp as udp_module  # noqa: E402
 
 # as `tools/params.py 250 50 --shelf 2` has them: what the pages use
 PARAMS = deltat.Params(mpl=482, r=450, a=5, rto=90, probe=180, seg=1442, cap=65536, rcap=65536, window=65536)
@@ -73,24 +75,24 @@ def raises(error: type[BaseException], words: str = "") -> Iterator[None]:
 
 
 def node_of(number: int, other: int, at: int | None = None, params: deltat.Params = PARAMS) -> deltat.Node:
-    return deltat.Node(number, params, LINKS, {other: 1}, again=False, at=at)
+    return deltat.Node(number, params, LINKS, {other: 1}, start=deltat.Start.FIRST, at=at)
 
 
-def caller_of(number: int, other: int, waiting: int = 1000, params: deltat.Params = PARAMS) -> service.Service:
+def caller_of(number: int, other: int, waiting: int = 1000, params: deltat.Params = PARAMS) -> deltat.Service:
     """A node whose ports 10 and 11 are callers'."""
-    limits = service.Limits(waiting=waiting)
-    it = service.Service(number, 1, params, LINKS, {other: 1}, again=False, limits=limits)
-    it.port(10, service.Kind.CALLER)
-    it.port(11, service.Kind.CALLER)
+    limits = deltat.ServiceLimits(max_calls=waiting)
+    it = deltat.Service(number, 1, params, LINKS, {other: 1}, start=deltat.Start.FIRST, limits=limits)
+    it.set_port(10, deltat.PortKind.CALLER)
+    it.set_port(11, deltat.PortKind.CALLER)
     return it
 
 
-def server_of(number: int, others: list[int], limits: service.Limits = service.Limits()) -> service.Service:
+def server_of(number: int, others: list[int], limits: deltat.ServiceLimits = deltat.ServiceLimits()) -> deltat.Service:
     """A node whose ports 20 and 21 are services', with a link to each of the others."""
     links = [deltat.Link(it, charge=274) for it in others]
-    node = service.Service(number, 1, PARAMS, links, {it: it for it in others}, again=False, limits=limits)
-    node.port(20, service.Kind.SERVICE)
-    node.port(21, service.Kind.SERVICE)
+    node = deltat.Service(number, 1, PARAMS, links, {it: it for it in others}, start=deltat.Start.FIRST, limits=limits)
+    node.set_port(20, deltat.PortKind.SERVICE)
+    node.set_port(21, deltat.PortKind.SERVICE)
     return node
 
 
@@ -123,17 +125,21 @@ def line_of(it: subprocess.Popen[str], seconds: float = 20) -> str:
 # --- how a node starts
 
 
+def start_of(again: bool) -> deltat.Start:
+    return deltat.Start.AGAIN if again else deltat.Start.FIRST
+
+
 class FakeState:
     """A state that keeps nothing, and notes what is asked of it."""
 
     def __init__(self, again: bool, left: int | None = None) -> None:
-        self.again, self.left, self.life, self.notes = again, left, 7, []
+        self.start, self.left, self.life, self.notes = start_of(again), left, 7, []
 
     def check(self, number: int, params: deltat.Params) -> None:
         self.notes.append((number, params))
 
     def opens_at(self, now: int) -> int:
-        return now if self.left is None else now - (PARAMS.quiet - self.left)
+        return now if self.left is None else now - (PARAMS.quiet_ms - self.left)
 
     def note_packet(self, now: int) -> None:
         self.notes.append("packet")
@@ -142,27 +148,27 @@ class FakeState:
         self.notes.append("closed")
 
 
-def again_is_said() -> None:
-    """a node is opened without `again`: it is refused, and told what to choose"""
+def start_is_chosen() -> None:
+    """a node is opened without a start: it is refused, and the error says what to choose"""
     with tempfile.TemporaryDirectory() as folder:
         for make in (
             lambda **how: deltat.Node(1, PARAMS, LINKS, {2: 1}, **how),
-            lambda **how: service.Service(1, None if "state" in how else 1, PARAMS, LINKS, {2: 1}, **how),
-            lambda **how: deltat_record.Recorded(f"{folder}/run", 1, PARAMS, LINKS, {2: 1}, **how),
+            lambda **how: deltat.Service(1, None if "state" in how else 1, PARAMS, LINKS, {2: 1}, **how),
+            lambda **how: deltat.Recorded(f"{folder}/run", 1, PARAMS, LINKS, {2: 1}, **how),
         ):
-            with raises(TypeError, "again=True if"):
+            with raises(TypeError, "start=Start.AGAIN if"):
                 make()
             with raises(TypeError, "exactly one"):
-                make(again=True, state=FakeState(False))
-            for again in (False, True):
-                make(again=again).close()
+                make(start=deltat.Start.AGAIN, state=FakeState(False))
+            for start in deltat.Start:
+                make(start=start).close()
 
 
 def state_is_asked() -> None:
     """a state says how a node starts, and is told of its packets and its end"""
     for again, left in ((False, None), (True, None), (True, 300), (True, 0)):
         state = FakeState(again, left)
-        quiet = PARAMS.quiet if again and left is None else left or 0
+        quiet = PARAMS.quiet_ms if again and left is None else left or 0
         node = deltat.Node(1, PARAMS, LINKS, {2: 1}, state=state, at=100_000)
         if quiet:
             with raises(deltat.Quiet):
@@ -173,8 +179,8 @@ def state_is_asked() -> None:
         packets = ["packet"] * (2 if quiet else 1)
         holds(state.notes == [(1, PARAMS), *packets, "closed"], f"the state was asked {state.notes}")
     state = FakeState(False)
-    with service.Service(1, None, PARAMS, LINKS, {2: 1}, state=state) as caller:
-        caller.port(10, service.Kind.CALLER)
+    with deltat.Service(1, None, PARAMS, LINKS, {2: 1}, state=state) as caller:
+        caller.set_port(10, deltat.PortKind.CALLER)
         holds(caller.life == 7, "the life isn't that of the state")
         udp = deltat.Udp(caller, (HOST, own_port()), {2: (HOST, own_port())})
         put = udp._put
@@ -183,7 +189,7 @@ def state_is_asked() -> None:
         udp.flush(deltat.now())
         udp.close()
     holds(state.notes[1:] == ["packet", "sent", "closed"], f"the state was asked {state.notes[1:]}")
-    with raises(deltat.BadParameter):
+    with raises(deltat.InvalidArgument):
         deltat.Node(
             1, deltat.Params(1, 3000, 200, 500, 800, 100, 4096, 4096, 512), LINKS, {}, state=(state := FakeState(False))
         )
@@ -195,7 +201,7 @@ def state_is_asked() -> None:
 
 def echo_calls(udp: deltat.Udp) -> threading.Thread:
     """A thread that serves port 20 until the socket is closed."""
-    calls = service.Calls(udp)
+    calls = deltat.Calls(udp)
     calls.on(20)(lambda request: b"ok " + request.payload)
 
     it = threading.Thread(target=calls.run, daemon=True)
@@ -225,10 +231,10 @@ def forked() -> None:
     """a process with open nodes forks: in the child each call raises, and the parent's calls get their own answers"""
     client, server, _ = pair_of_udp(caller_of(1, 2), server_of(2, [1]))
     serving = echo_calls(server)
-    calls = service.Calls(client)
+    calls = deltat.Calls(client)
     plain = node_of(5, 6)
     folder = tempfile.TemporaryDirectory()
-    record = deltat_record.Recorded(f"{folder.name}/run", 7, PARAMS, LINKS, {6: 1}, again=False)
+    record = deltat.Recorded(f"{folder.name}/run", 7, PARAMS, LINKS, {6: 1}, start=deltat.Start.FIRST)
     holds(calls.call(CALL, b"zero") == b"ok zero", "no answer before the fork")
 
     def tries() -> str:
@@ -238,10 +244,10 @@ def forked() -> None:
             "poll": lambda: client.poll(0),
             "flush": lambda: client.flush(0),
             "wake": lambda: client.node.wake,
-            "frames": lambda: list(client.node.frames()),
-            "happenings": lambda: list(client.node.happenings()),
+            "datagrams": lambda: list(client.node.datagrams()),
+            "events": lambda: list(client.node.events()),
             "counts": client.node.counts,
-            "kept_out": client.node.kept_out,
+            "blocked_counts": client.node.blocked_counts,
             "stop": client.node.stop,
             "tick": plain.tick,
             "reports": lambda: list(plain.reports()),
@@ -249,14 +255,14 @@ def forked() -> None:
             "send": lambda: plain.send(deltat.Flow(5, 1, 6, 1), b"x"),
         }
         for name, ask in asked.items():
-            with raises(getattr(deltat, "Forked", deltat.Spent), "forked child"):
+            with raises(getattr(deltat, "Forked", deltat.Stopped), "forked child"):
                 try:
                     ask()
                 except Exception as why:
                     raise type(why)(*why.args) from None
                 raise Wrong(f"{name} doesn't raise")
         holds(
-            client.socket.fileno() < 0 and client.node._exports.counts(memory).status == deltat.Status.CLOSED,
+            client.socket.fileno() < 0 and client.node._exports.get_counts(memory, sized(NodeCounts)) == deltat.Status.NOT_OPEN,
             "the child's copies are open",
         )
         for it in (client, plain, record):
@@ -314,7 +320,7 @@ def dropped() -> None:
     holds(grown < 10_000, f"it grew by {grown} KiB")
     with node_of(1, 2, at=0) as it:
         it.tick(1)
-    with raises(deltat.Spent):
+    with raises(deltat.Stopped):
         it.tick(2)
 
 
@@ -347,7 +353,7 @@ def longer_than_cap() -> None:
     """a message is longer than a flow may hold: it is refused at once, in both loops alike"""
     with deltat.Udp(node_of(1, 2, params=SMALL), (HOST, own_port()), {2: (HOST, own_port())}) as udp:
         for octets in (bytes(4097), bytes(5000), bytes(70_000), b""):
-            with raises(deltat.BadParameter, "1 to 4096"):
+            with raises(deltat.InvalidArgument, "1 to 4096"):
                 udp.send(CALL, octets)
         udp.send(CALL, bytes(4096))
         with raises(deltat.Full):
@@ -355,7 +361,7 @@ def longer_than_cap() -> None:
 
     async def main() -> None:
         async with deltat.AsyncUdp(node_of(1, 2, params=SMALL), (HOST, own_port()), {2: (HOST, own_port())}) as udp:
-            with raises(deltat.BadParameter, "1 to 4096"):
+            with raises(deltat.InvalidArgument, "1 to 4096"):
                 await asyncio.wait_for(udp.send(CALL, bytes(5000)), 2)
 
     asyncio.run(main())
@@ -363,20 +369,20 @@ def longer_than_cap() -> None:
 
 def units() -> None:
     """a timeout is 5: of a node these are ms, of calls seconds, and their names say it"""
-    for kind, name in ((service.Service, "timeout_ms"), (service.Calls, "timeout"), (service.AsyncCalls, "timeout")):
+    for kind, name in ((deltat.Service, "timeout_ms"), (deltat.Calls, "timeout"), (deltat.AsyncCalls, "timeout")):
         holds(list(inspect.signature(kind.call).parameters)[3] == name, f"{kind.__name__}.call has no {name}")
     caller = caller_of(1, 2)
     at = deltat.now()
     number = caller.call(CALL, b"x", timeout_ms=5, at=at)
     caller.tick(at + 6)
-    holds(list(caller.happenings()) == [service.Doubtful(number, service.Cause.PATIENCE)], "5 ms aren't over")
+    holds(list(caller.events()) == [deltat.UnsureCall(number, 0, deltat.Cause.TIMEOUT)], "5 ms aren't over")
     with deltat.Udp(caller, (HOST, own_port()), {2: (HOST, own_port())}) as udp:
         begun = time.monotonic()
-        with raises(service.Unsure):
-            service.Calls(udp).call(CALL, b"x", timeout=0.3)
+        with raises(deltat.Unsure):
+            deltat.Calls(udp).call(CALL, b"x", timeout=0.3)
         holds(0.25 < time.monotonic() - begun < 5, f"0.3 s are {time.monotonic() - begun:.2f} s")
-        with raises(deltat.BadParameter, "s; it is below"):
-            service.Calls(udp).call(CALL, b"x", timeout=float("inf"))
+        with raises(deltat.InvalidArgument, "s; it must be below"):
+            deltat.Calls(udp).call(CALL, b"x", timeout=float("inf"))
 
 
 def octets_alone() -> None:
@@ -392,7 +398,7 @@ def octets_alone() -> None:
         with raises(TypeError):
             caller.call(CALL, it, 1000)
         with raises(TypeError):
-            server.reply(service.Token(CALL, 1 << 32), it)
+            server.reply(deltat.Token(CALL, 1 << 32), it)
 
 
 def given_up_is_kept() -> None:
@@ -404,24 +410,24 @@ def given_up_is_kept() -> None:
             nodes[0].send(flow, b"lost", at=at)
         at += 3000
         nodes[0].tick(at)
-        list(nodes[0].frames())
+        list(nodes[0].datagrams())
     for _ in range(4000):
         nodes[0].send(deltat.Flow(1, 11, 2, 20), b"x", at=at)
-        for frame in nodes[0].frames():
-            nodes[1].arrive(1, frame.octets, at=at)
+        for frame in nodes[0].datagrams():
+            nodes[1].receive(1, frame.octets, at=at)
         list(nodes[1].messages(at))
-        for frame in nodes[1].frames():
-            nodes[0].arrive(1, frame.octets, at=at)
+        for frame in nodes[1].datagrams():
+            nodes[0].receive(1, frame.octets, at=at)
         at += 1
     told = list(nodes[0].reports())
-    found = {it.flow: it.count for it in told if it.kind is deltat.Kind.UNCERTAIN}
+    found = {it.flow: it.count for it in told if it.kind is deltat.ReportKind.UNCERTAIN}
     holds(found == dict.fromkeys(lost, 8), f"{found} was given up, by the reports")
     holds(len(told) <= 10_002 and nodes[0].reports_dropped > 0, f"{len(told)} reports are kept")
 
 
 def other_link() -> None:
     """a node's link isn't number 1: its socket finds it, and one that is named wrongly is refused"""
-    nodes = [deltat.Node(it, PARAMS, [deltat.Link(7, charge=274)], {3 - it: 7}, again=False) for it in (1, 2)]
+    nodes = [deltat.Node(it, PARAMS, [deltat.Link(7, charge=274)], {3 - it: 7}, start=deltat.Start.FIRST) for it in (1, 2)]
     one, two, ports = pair_of_udp(*nodes)
     with one, two:
         one.send(CALL, b"hello")
@@ -431,8 +437,8 @@ def other_link() -> None:
             one.poll(0.02)
         holds([it.octets for it in found] == [b"hello"], f"{found} came; {nodes[1].counts()}")
     for links, routes in (([7], {2: 1}), ([7], {2: 8}), ([7, 8], None), ([], None)):
-        lonely = deltat.Node(1, PARAMS, [deltat.Link(it, charge=274) for it in links], {}, again=False)
-        with raises(deltat.BadParameter, "peer 2"):
+        lonely = deltat.Node(1, PARAMS, [deltat.Link(it, charge=274) for it in links], {}, start=deltat.Start.FIRST)
+        with raises(deltat.InvalidArgument, "peer 2"):
             deltat.Udp(lonely, (HOST, ports[0]), {2: (HOST, ports[1])}, routes)
     socket.socket(socket.AF_INET, socket.SOCK_DGRAM).bind((HOST, ports[0]))
 
@@ -443,26 +449,26 @@ def other_link() -> None:
 class Noting(deltat.Node):
     """A node that notes what a datagram is said to have waited."""
 
-    def arrive(self, link: int, datagram: bytes, waited: int = 0, at: int | None = None) -> deltat.Status:
-        self.noted.append((at, waited))
-        return super().arrive(link, datagram, waited, at)
+    def receive(self, link: int, datagram: bytes, waited_ms: int = 0, at: int | None = None) -> deltat.Status:
+        self.noted.append((at, waited_ms))
+        return super().receive(link, datagram, waited_ms, at)
 
 
 def slow_clock() -> None:
     """a program is stopped beside a reading of its clock, and a datagram comes meanwhile: it counts as old"""
-    real, stop, failed = deltat.now, 0.03, []
+    real, stop, failed = clock.now, 0.03, []
     for has_stamps in (True, False):
         for is_before in (True, False):
             for place in range(20):
                 failed += stopped_at(place, stop, is_before, has_stamps)
-    deltat.now = real
+    clock.now = real
     holds(not failed, f"{len(failed)} of 80 stops: {failed[0] if failed else ''}")
 
 
 def stopped_at(place: int, stop: float, is_before: bool, has_stamps: bool) -> list[str]:
     """Stops a program at that reading of its clock, before it or behind it. The datagrams that count as too young."""
     real, came = time.CLOCK_BOOTTIME, []
-    node = Noting(1, PARAMS, LINKS, {2: 1}, again=False)
+    node = Noting(1, PARAMS, LINKS, {2: 1}, start=deltat.Start.FIRST)
     node.noted = []
     port, peer = own_port(), socket.socket(socket.AF_INET, socket.SOCK_DGRAM)
     peer.bind((HOST, 0))
@@ -482,14 +488,14 @@ def stopped_at(place: int, stop: float, is_before: bool, has_stamps: bool) -> li
             value = int(read()) if is_before else value
         return value
 
-    usual = deltat.now, deltat._SO_TIMESTAMPNS
-    deltat.now, deltat._SO_TIMESTAMPNS = slow, usual[1] if has_stamps else socket.SO_REUSEADDR
+    usual = clock.now, udp_module.SO_TIMESTAMPNS
+    clock.now, udp_module.SO_TIMESTAMPNS = slow, usual[1] if has_stamps else socket.SO_REUSEADDR
     try:
         with peer, deltat.Udp(node, (HOST, port), {2: peer.getsockname()}) as udp:
             for _ in range(4):
                 udp.poll(0.001)
     finally:
-        deltat.now, deltat._SO_TIMESTAMPNS = usual
+        clock.now, udp_module.SO_TIMESTAMPNS = usual
     # (a moment is rounded down, and what was waited is rounded up)
     return [
         f"at reading {place}, {'before' if is_before else 'behind'} it, stamps {has_stamps}: "
@@ -528,16 +534,16 @@ def bad_replies() -> None:
     bad = {b"text": "text", b"number": 5, b"long": bytes(65_530)}
 
     async def main(log: Lines) -> None:
-        client, server, _ = pair_of_udp(caller_of(1, 2), server_of(2, [1], service.Limits(10, 3, 3)), deltat.AsyncUdp)
-        calls, served = service.AsyncCalls(client), service.AsyncCalls(server)
+        client, server, _ = pair_of_udp(caller_of(1, 2), server_of(2, [1], deltat.ServiceLimits(10, 3, 3)), deltat.AsyncUdp)
+        calls, served = deltat.AsyncCalls(client), deltat.AsyncCalls(server)
 
         @served.on(20)
-        async def serve(request: service.Request) -> object:
+        async def serve(request: deltat.Request) -> object:
             return bad[request.payload] if request.payload in bad else {b"good": b"fine"}[request.payload]
 
         serving = asyncio.create_task(served.run())
         for word in (b"good", *bad, *bad, b"raises", b"good"):
-            wants = contextlib.nullcontext() if word == b"good" else raises(service.Unsure)
+            wants = contextlib.nullcontext() if word == b"good" else raises(deltat.Unsure)
             with wants:
                 holds(
                     await asyncio.wait_for(calls.call(CALL, word, 2.0 if word == b"good" else 0.3), 5) == b"fine",
@@ -553,8 +559,8 @@ def bad_replies() -> None:
 
     with Lines() as log:
         asyncio.run(main(log))
-    client, server, _ = pair_of_udp(caller_of(1, 2), server_of(2, [1], service.Limits(10, 1, 1)))
-    calls = service.Calls(server)
+    client, server, _ = pair_of_udp(caller_of(1, 2), server_of(2, [1], deltat.ServiceLimits(10, 1, 1)))
+    calls = deltat.Calls(server)
     calls.on(20)(lambda request: bad.get(request.payload, b"fine"))
     with client, server:
         for word in (*bad, b"good"):
@@ -563,26 +569,26 @@ def bad_replies() -> None:
             try:
                 calls.run(0.3)
                 holds(word == b"good", "what isn't a reply isn't raised by `run`")
-            except (TypeError, deltat.BadParameter):
+            except (TypeError, deltat.InvalidArgument):
                 holds(word != b"good", "a good reply raises")
         end = time.monotonic() + 3
         told: list[object] = []
         while len(told) < 4 and time.monotonic() < end:
             client.poll(0.05)
             server.poll(0)
-            told += client.node.happenings()
-        holds([type(it) for it in told].count(service.Answered) == 1, f"{told} behind three bad replies")
+            told += client.node.events()
+        holds([type(it) for it in told].count(deltat.Answered) == 1, f"{told} behind three bad replies")
 
 
 def one_at_a_time() -> None:
     """a service has room for one request, and 30 come at once: each reply lets the next one in, at once"""
 
     async def main() -> float:
-        client, server, _ = pair_of_udp(caller_of(1, 2), server_of(2, [1], service.Limits(10, 1, 1)), deltat.AsyncUdp)
-        calls, served = service.AsyncCalls(client), service.AsyncCalls(server)
+        client, server, _ = pair_of_udp(caller_of(1, 2), server_of(2, [1], deltat.ServiceLimits(10, 1, 1)), deltat.AsyncUdp)
+        calls, served = deltat.AsyncCalls(client), deltat.AsyncCalls(server)
 
         @served.on(20)
-        async def echo(request: service.Request) -> bytes:
+        async def echo(request: deltat.Request) -> bytes:
             await asyncio.sleep(0.001)
             return request.payload
 
@@ -603,7 +609,7 @@ def one_at_a_time() -> None:
 def two_over_one() -> None:
     """two `Calls` have one socket: each gets its own ends, and the requests of its own ports"""
 
-    async def many(calls: service.AsyncCalls, word: bytes, port: int) -> None:
+    async def many(calls: deltat.AsyncCalls, word: bytes, port: int) -> None:
         for number in range(50):
             answer = await asyncio.wait_for(calls.call(deltat.Flow(1, 10, 2, port), b"%s %d" % (word, number), 3.0), 5)
             holds(answer == b"%d %s %d" % (port, word, number), f"{answer} answers {word} {number}")
@@ -612,16 +618,16 @@ def two_over_one() -> None:
         client, server, _ = pair_of_udp(caller_of(1, 2), server_of(2, [1]), deltat.AsyncUdp)
         serving = []
         for port in (20, 21):
-            served = service.AsyncCalls(server)
+            served = deltat.AsyncCalls(server)
 
-            async def serve(request: service.Request, port: int = port) -> bytes:
+            async def serve(request: deltat.Request, port: int = port) -> bytes:
                 await asyncio.sleep(0.002)
                 return b"%d %s" % (port, request.payload)
 
             served.on(port)(serve)
             serving.append(asyncio.create_task(served.run()))
-        await asyncio.gather(*(many(service.AsyncCalls(client), b"%d" % it, 20 + it % 2) for it in range(4)))
-        with raises(deltat.BadParameter, "served by other Calls"):
+        await asyncio.gather(*(many(deltat.AsyncCalls(client), b"%d" % it, 20 + it % 2) for it in range(4)))
+        with raises(deltat.InvalidArgument, "served by other Calls"):
             served.on(20)(serve)
         for it in serving:
             it.cancel()
@@ -631,12 +637,12 @@ def two_over_one() -> None:
     asyncio.run(main())
     client, server, _ = pair_of_udp(caller_of(1, 2), server_of(2, [1]))
     serving = echo_calls(server)
-    one, other = service.Calls(client), service.Calls(client)
+    one, other = deltat.Calls(client), deltat.Calls(client)
     for number in range(20):
         for calls in (one, other):
             holds(calls.call(CALL, b"%d" % number, 3.0) == b"ok %d" % number, "another answer")
         # one that is made for a single call leaves nothing behind
-        holds(service.Calls(client, [12]).call(CALL, b"x", 3.0) == b"ok x", "another answer")
+        holds(deltat.Calls(client, [12]).call(CALL, b"x", 3.0) == b"ok x", "another answer")
     client.close()
     server.close()
     serving.join(5)
@@ -651,7 +657,7 @@ def closed_loops() -> None:
         return "ended"
 
     async def over_requests(udp: deltat.AsyncUdp) -> str:
-        async for _ in service.AsyncCalls(udp).requests():
+        async for _ in deltat.AsyncCalls(udp).requests():
             pass
         return "ended"
 
@@ -662,13 +668,13 @@ def closed_loops() -> None:
             await asyncio.sleep(0.05)
             udp.close()
             holds(await asyncio.wait_for(going, 2) == "ended", "it doesn't end")
-            with raises(deltat.Spent):
+            with raises(deltat.Stopped):
                 await udp.receive()
 
     asyncio.run(main())
     for node, loop in (
         (node_of(1, 2), lambda udp: list(udp)),
-        (caller_of(1, 2), lambda udp: list(service.Calls(udp).requests())),
+        (caller_of(1, 2), lambda udp: list(deltat.Calls(udp).requests())),
     ):
         udp = deltat.Udp(node, (HOST, own_port()), {2: (HOST, own_port())})
         udp.close()
@@ -688,7 +694,7 @@ def serve(request):
 
 async def main():
     async with deltat.AsyncUdp(node, (HOST, int(words[0])), {it: (HOST, int(words[it])) for it in (1, 2)}) as udp:
-        calls = service.AsyncCalls(udp)
+        calls = deltat.AsyncCalls(udp)
         calls.on(20)(serve)
         print("ready", flush=True)
         await calls.run()
@@ -697,7 +703,7 @@ if words[3] == "async":
     udp.socket.close()
     asyncio.run(main())
 else:
-    calls = service.Calls(udp)
+    calls = deltat.Calls(udp)
     calls.on(20)(serve)
     print("ready", flush=True)
     calls.run()
@@ -716,8 +722,8 @@ def slow_functions() -> None:
 
             def ask(at: int, word: bytes) -> None:
                 try:
-                    answers[at] = service.Calls(udps[at]).call(flows[at], word, 8.0)
-                except service.Unsure as why:
+                    answers[at] = deltat.Calls(udps[at]).call(flows[at], word, 8.0)
+                except deltat.Unsure as why:
                     answers[at] = f"unsure: {why}"
 
             asking = [threading.Thread(target=ask, args=(0, b"slow")), threading.Thread(target=ask, args=(1, b"fast"))]
@@ -727,7 +733,7 @@ def slow_functions() -> None:
             for one in asking:
                 one.join()
             holds(answers == {0: b"done slow", 1: b"done fast"}, f"{kind}: {answers}")
-            where = service.Calls(udps[0]).call(flows[0], b"thread", 3.0)
+            where = deltat.Calls(udps[0]).call(flows[0], b"thread", 3.0)
             holds(where == (b"main" if kind == "plain" else b"another"), f"{kind}: the function runs in {where}")
             for udp in udps:
                 udp.close()
@@ -748,7 +754,7 @@ def background_work() -> None:
             one.send(CALL, b"meanwhile")
             end = time.monotonic() + 3
             while time.monotonic() < end and not any(
-                it.kind in (deltat.Kind.SETTLED, deltat.Kind.UNCERTAIN) for it in told
+                it.kind in (deltat.ReportKind.ACKNOWLEDGED, deltat.ReportKind.UNCERTAIN) for it in told
             ):
                 one.poll(0.05)
                 told.extend(one.node.reports())
@@ -760,19 +766,19 @@ def background_work() -> None:
             time.sleep(2)
         came = two.poll(0)
         asking.join()
-        kinds = [it.kind.name for it in told if it.kind in (deltat.Kind.SETTLED, deltat.Kind.UNCERTAIN)]
-        holds(kinds == ["SETTLED"], f"the reports are {kinds}")
+        kinds = [it.kind.name for it in told if it.kind in (deltat.ReportKind.ACKNOWLEDGED, deltat.ReportKind.UNCERTAIN)]
+        holds(kinds == ["ACKNOWLEDGED"], f"the reports are {kinds}")
         holds([it.octets for it in came] == [b"meanwhile"], f"{came} came")
 
 
 ECHO = """
 async def main():
     params = PATIENT if words[2:] == ["patient"] else PARAMS
-    node = service.Service(2, 1, params, LINKS, {1: 1}, again=False, limits=service.Limits(10, 4000, 4000))
-    node.port(20, service.Kind.SERVICE)
-    node.port(21, service.Kind.SERVICE)
+    node = deltat.Service(2, 1, params, LINKS, {1: 1}, start=deltat.Start.FIRST, limits=deltat.ServiceLimits(10, 4000, 4000))
+    node.set_port(20, deltat.PortKind.SERVICE)
+    node.set_port(21, deltat.PortKind.SERVICE)
     async with deltat.AsyncUdp(node, (HOST, int(words[0])), {1: (HOST, int(words[1]))}) as udp:
-        calls = service.AsyncCalls(udp)
+        calls = deltat.AsyncCalls(udp)
 
         @calls.on(20)
         async def echo(request):
@@ -793,7 +799,7 @@ FLOOR = 1500, 100
 
 async def call_on(udp: deltat.AsyncUdp, seconds: float, tasks: int) -> tuple[int, int, float]:
     """So many calls are under way for so long: how many were answered and unsure, and the seconds of a processor."""
-    calls, end, ends = service.AsyncCalls(udp), time.monotonic() + seconds, [0, 0]
+    calls, end, ends = deltat.AsyncCalls(udp), time.monotonic() + seconds, [0, 0]
 
     async def one(number: int) -> None:
         flow = deltat.Flow(1, 10 + number % 2, 2, 20)
@@ -801,7 +807,7 @@ async def call_on(udp: deltat.AsyncUdp, seconds: float, tasks: int) -> tuple[int
             try:
                 holds(await calls.call(flow, b"%d" % number, 30.0) == b"%d" % number, "another answer")
                 ends[0] += 1
-            except service.Unsure:
+            except deltat.Unsure:
                 ends[1] += 1
 
     begun = time.process_time()
@@ -809,7 +815,7 @@ async def call_on(udp: deltat.AsyncUdp, seconds: float, tasks: int) -> tuple[int
     return ends[0], ends[1], time.process_time() - begun
 
 
-async def cost_of(calls: service.AsyncCalls, waiting: int) -> float:
+async def cost_of(calls: deltat.AsyncCalls, waiting: int) -> float:
     """What one of 150 calls one after another costs, in seconds of a processor, while so many others wait."""
     others = [asyncio.ensure_future(calls.call(deltat.Flow(1, 11, 2, 21), b"", 60.0)) for _ in range(waiting)]
     await asyncio.sleep(1)
@@ -828,7 +834,7 @@ def others_wait() -> None:
 
     async def main() -> tuple[float, float]:
         async with deltat.AsyncUdp(caller_of(1, 2, 2000), (HOST, ports[1]), {2: (HOST, ports[0])}) as udp:
-            calls = service.AsyncCalls(udp)
+            calls = deltat.AsyncCalls(udp)
             return await cost_of(calls, 0), await cost_of(calls, 900)
 
     with process(ECHO, *ports) as it:
@@ -877,7 +883,7 @@ def blocked_once() -> int:
 
     async def main() -> list[object]:
         async with deltat.AsyncUdp(caller_of(1, 2, 2000), (HOST, ports[1]), {2: (HOST, ports[0])}) as udp:
-            calls = service.AsyncCalls(udp)
+            calls = deltat.AsyncCalls(udp)
 
             async def one(number: int) -> bytes:
                 time.sleep(0.003)
@@ -899,7 +905,7 @@ def flood() -> None:
     client, server, _ = pair_of_udp(caller_of(1, 2), server_of(2, [1]))
     with client, server:
         number = client.node.call(CALL, b"x", 1)
-        pattern = bytearray(next(client.node.frames()).octets)
+        pattern = bytearray(next(client.node.datagrams()).octets)
         holds(pattern[16] == 1 and number is not None, "no packet of data")
         server.poll(0)
         before = memory_of(os.getpid())
@@ -911,15 +917,15 @@ def flood() -> None:
             client.socket.sendto(pattern, server.socket.getsockname())
             if flow % 100 == 99:
                 server.poll(0)
-                for it in server.node.happenings():
+                for it in server.node.events():
                     server.node.forget(it.token)
-        grown, kept = memory_of(os.getpid()) - before, server.node.kept_out()
+        grown, kept = memory_of(os.getpid()) - before, server.node.blocked_counts()
         print(f"  120,000 new flows: {grown} KiB, {kept}", flush=True)
         holds(grown < 60_000, f"it grew by {grown} KiB")
-        holds(kept.closed > 50_000 and kept.crowded > 10_000, f"{kept} were kept out")
+        holds(kept.closed_port > 50_000 and kept.too_many_flows > 10_000, f"{kept} were kept out")
         serving = echo_calls(server)
-        time.sleep(PARAMS.quiet / 1000 + 0.5)
-        holds(service.Calls(client).call(deltat.Flow(1, 11, 2, 20), b"y", 5.0) == b"ok y", "it doesn't serve any more")
+        time.sleep(PARAMS.quiet_ms / 1000 + 0.5)
+        holds(deltat.Calls(client).call(deltat.Flow(1, 11, 2, 20), b"y", 5.0) == b"ok y", "it doesn't serve any more")
         server.close()
         serving.join(5)
 
@@ -927,10 +933,10 @@ def flood() -> None:
 def guards() -> None:
     """the guard of a socket has the ports with a kind, also those that get one later; a program's own one stays"""
 
-    def admitted(server: service.Service, port: int) -> bool:
+    def admitted(server: deltat.Service, port: int) -> bool:
         caller = caller_of(1, 2)
         caller.call(deltat.Flow(1, 10, 2, port), b"x", 1000)
-        return server.arrive(1, next(caller.frames()).octets) is deltat.Status.DONE
+        return server.receive(1, next(caller.datagrams()).octets) is deltat.Status.OK
 
     server = server_of(2, [1])
     holds(admitted(server, 30), "a node without a socket has a guard")
@@ -938,27 +944,27 @@ def guards() -> None:
         holds(
             [admitted(server, port) for port in (20, 21, 30, 31)] == [True, True, False, False], "other ports are open"
         )
-        server.port(30, service.Kind.SERVICE)
+        server.set_port(30, deltat.PortKind.SERVICE)
         holds(
             [admitted(server, port) for port in (20, 30, 31)] == [True, True, False],
             "a port that got a kind isn't open",
         )
     server = server_of(2, [1])
-    server.guard(ports=[31])
+    server.set_guard(ports=[31])
     with deltat.Udp(server, (HOST, own_port()), {1: (HOST, own_port())}):
-        server.port(30, service.Kind.SERVICE)
+        server.set_port(30, deltat.PortKind.SERVICE)
         holds([admitted(server, port) for port in (20, 30, 31)] == [False, False, True], "the program's guard is gone")
-    usual, deltat.MOST_FLOWS = deltat.MOST_FLOWS, 2
+    usual, node_module.MOST_FLOWS = node_module.MOST_FLOWS, 2
     server, caller = server_of(2, [1]), caller_of(1, 2)
     caller.call(CALL, b"x", 1000)
-    frame = bytearray(next(caller.frames()).octets)
+    frame = bytearray(next(caller.datagrams()).octets)
 
     def flows(first: int) -> int:
         """How many of 100 new flows are admitted."""
         count = 0
         for port in range(first, first + 100):
             frame[18:20] = port.to_bytes(2, "big")
-            count += server.arrive(1, frame) is deltat.Status.DONE
+            count += server.receive(1, frame) is deltat.Status.OK
         return count
 
     with deltat.Udp(server, (HOST, own_port()), {1: (HOST, own_port())}):
@@ -966,12 +972,12 @@ def guards() -> None:
         for number in range(50, 52):
             server.add_route(number, 1)
         found.append(flows(2000))
-    deltat.MOST_FLOWS = usual
+    node_module.MOST_FLOWS = usual
     holds(found == [16, 32], f"{found} flows are admitted with one route, and more with three")
 
 
 CASES = [
-    again_is_said,
+    start_is_chosen,
     state_is_asked,
     forked,
     forked_loop,

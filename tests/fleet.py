@@ -84,27 +84,27 @@ send 1:10>2:20 be 68
 """,
 }
 BAD = [
-    ("x", "Expected '=' after a key in a key/value pair (at end of document)"),
-    ("", "a network has nodes and links"),
-    ("[net]\n", "`net` is no part of a description; it has [network], [[node]] and [[link]]"),
-    (TWO.replace("round_trip", "roundtrip"), "network: `roundtrip` is no part of it; it has round_trip, drift, tries, room, shelf, stop"),
-    (TWO.replace("shelf = 0", "shelf = 65"), "network: shelf is 65, and should be a whole number from 0 to 64"),
-    (TWO.replace("shelf = 0", "shelf = 0.5"), "network: shelf is 0.5, and should be a whole number from 0 to 64"),
-    (TWO.replace("delay = 250", "delay = -1"), "link 1: delay is -1, and should be a number from 0 to 86400000"),
+    ("x", "it isn't valid TOML: Expected '=' after a key in a key/value pair (at end of document)"),
+    ("", "there is no node or no link; a network needs both"),
+    ("[net]\n", "unknown table: net; the tables are [network], [[node]] and [[link]]"),
+    (TWO.replace("round_trip", "roundtrip"), "network: unknown key: roundtrip; the keys are round_trip, drift, tries, room, shelf, stop"),
+    (TWO.replace("shelf = 0", "shelf = 65"), "network: shelf is 65; it must be a whole number from 0 to 64"),
+    (TWO.replace("shelf = 0", "shelf = 0.5"), "network: shelf is 0.5; it must be a whole number from 0 to 64"),
+    (TWO.replace("delay = 250", "delay = -1"), "link 1: delay is -1; it must be a number from 0 to 86400000"),
     (TWO.replace("delay = 250\n", ""), "link 1: delay is missing"),
-    (TWO.replace("number = 2", "number = 1"), "node 2: 'b', number 1, is there already as 'a', number 1"),
-    (TWO.replace('name = "b"', 'name = "../b"'), "node 2: the name '../b' isn't of letters, digits, - and _ alone"),
-    (TWO.replace('"first"', '"once"'), "node 1: start is 'once', and should be \"first\" or \"again\""),
-    (TWO.replace('["b", "a"]', '["b", "c"]'), "link 1: there is no node 'c'"),
-    (TWO.replace('["b", "a"]', '["b", "b"]'), "link 1: ends isn't a list of two nodes"),
-    (TWO.replace("localhost:4002", "127.0.0.1:4001"), "node 'b': 127.0.0.1:4001 is the address of 'a' too"),
-    (TWO.replace("localhost:4002", "localhost"), "node 'b': the address 'localhost' isn't HOST:PORT"),
-    (TWO.replace("2:20 be 68", "2:20 be 6"), "node 'a': the line `at 10 send 1:10>2:20 be 6` is refused: hex"),
-    (TWO.replace("1:10>2:20 be", "2:10>1:20 be"), "node 'a': the line `at 10 send 2:10>1:20 be 68` is refused: bad flow"),
-    (TWO + '\n[[link]]\nends = ["a", "b"]\ndelay = 1\n', "node 'a' has two links to one node: what comes would count as of the first"),
-    (TWO + '\n[[node]]\nname = "c"\nnumber = 3\naddress = "127.0.0.1:4003"\n', "there is no way from 'a' to 'c'"),
-    (TWO + "mtu = 58\n", "an MTU of 58 octets has no room for an octet behind 58 of headers"),
-    (TWO.replace("delay = 250", "delay = 86400000"), "the life of a packet would be longer than a day"),
+    (TWO.replace("number = 2", "number = 1"), "node 2: 'b', number 1, has the name or number of 'a', number 1; give it its own"),
+    (TWO.replace('name = "b"', 'name = "../b"'), "node 2: name is '../b'; it must be 1 to 64 letters, digits, - and _"),
+    (TWO.replace('"first"', '"once"'), "node 1: start is 'once'; it must be \"first\" or \"again\""),
+    (TWO.replace('["b", "a"]', '["b", "c"]'), "link 1: unknown node: 'c'; the nodes are a, b"),
+    (TWO.replace('["b", "a"]', '["b", "b"]'), "link 1: ends is ['b', 'b']; it must be a list of the names of two nodes"),
+    (TWO.replace("localhost:4002", "127.0.0.1:4001"), "node 'b': 127.0.0.1:4001 is the address of node 'a' too; give each node its own"),
+    (TWO.replace("localhost:4002", "localhost"), "node 'b': address is 'localhost'; it must be HOST:PORT"),
+    (TWO.replace("2:20 be 68", "2:20 be 6"), "node 'a': the line `at 10 send 1:10>2:20 be 6` is refused: hex; docs/formats.md explains the fault"),
+    (TWO.replace("1:10>2:20 be", "2:10>1:20 be"), "node 'a': the line `at 10 send 2:10>1:20 be 68` is refused: bad flow; docs/formats.md explains the fault"),
+    (TWO + '\n[[link]]\nends = ["a", "b"]\ndelay = 1\n', "node 'a' has two links to one node; packets would count as those of the first, so leave one out"),
+    (TWO + '\n[[node]]\nname = "c"\nnumber = 3\naddress = "127.0.0.1:4003"\n', "no links lead from node 'a' to node 'c'; add a link"),
+    (TWO + "mtu = 58\n", "the MTU is 58 octets; it must be more than 58, which headers take"),
+    (TWO.replace("delay = 250", "delay = 86400000"), "a packet would live for more than a day; delays must be shorter, or hops fewer"),
 ]
 
 
@@ -189,9 +189,9 @@ def bad() -> list[tuple[str, bool, str]]:
             found.append((f"bad: {right}", holds, "" if holds else said))
         words = [sys.executable, TOOL, "none.toml", "--out", "out"]
         ran = subprocess.run(words, cwd=name, capture_output=True, text=True, check=False)
-        found.append(("no file", (ran.returncode, ran.stderr) == (2, "fleet.py: none.toml: No such file or directory\n"), ran.stderr.strip()))
+        found.append(("no file", (ran.returncode, ran.stderr) == (2, "fleet.py: none.toml: No such file or directory; give a description, and a folder that can be written\n"), ran.stderr.strip()))
         status, said = fleet(TWO.replace("localhost:4002", "no.such.host.invalid:4002"), Path(name))
-        found.append(("a host that isn't found", status == 2 and said.startswith("network.toml: node 'b': 'no.such.host.invalid' isn't found: "), said.strip()))
+        found.append(("a host that isn't found", status == 2 and said.startswith("network.toml: node 'b': host 'no.such.host.invalid' isn't found: "), said.strip()))
     return found
 
 

@@ -11,7 +11,7 @@ Usage: tests/interface.py [FOLDER], with libdeltat.a and libdeltat.so.2 in FOLDE
   dt_fault_name and dt_report_name give each constant's own name.
 - A program of interface 1 isn't linked, with libdeltat.a or with libdeltat.so, and the linker names its functions; one
   that is linked already doesn't start, with libdeltat.so.2 under its own name or under that of the older library; and
-  the module for ctypes refuses a library of interface 1.
+  the Python package refuses a library of interface 1.
 - `make install` into a folder: examples/hello.c and examples/hello.cpp are compiled by pkg-config and by CMake's
   find_package, with the shared library and with the static one, and run; a version that isn't there is refused.
 
@@ -95,7 +95,7 @@ def copies() -> Iterator[Case]:
     text = interface.HEADER.read_text()
     for what, old, new, stale in (
         ("a field that was moved", "uint32_t source, target;", "uint32_t target, source;", "sys.rs"),
-        ("another number of a status", "DT_GONE = 18 ", "DT_GONE = 19 ", "_deltat_c.py"),
+        ("another number of a status", "DT_GONE = 18 ", "DT_GONE = 19 ", "_c.py"),
         ("another type of a parameter", "_tick(dt_node *node, uint64_t now)", "_tick(dt_node *node, uint32_t now)", "dt_node_tick has"),
         ("another type of a field", "    uint32_t mpl; ", "    uint64_t mpl; ", "struct dt_params and"),
         ("another name of a status", "DT_FULL = 7", "DT_ROOM = 7", "names.c"),
@@ -156,7 +156,7 @@ def former(folder: pathlib.Path, libraries: pathlib.Path, tables: object) -> Ite
         tables.load(str(old))
         yield "a library of interface 1 isn't loaded by ctypes", False, ""
     except ImportError as said:
-        good = "has interface 1, this module is for 2" in str(said)
+        good = "has interface 1, and this package needs 2; install" in str(said)
         yield "a library of interface 1 isn't loaded by ctypes", good, str(said)
 
 
@@ -202,7 +202,8 @@ def installed(folder: pathlib.Path, libraries: pathlib.Path) -> Iterator[Case]:
 
 
 def cases(libraries: pathlib.Path) -> Iterator[Case]:
-    tables = importlib.import_module("_deltat_c")
+    os.environ["DELTAT_LIBRARY"] = str(libraries / SONAME)
+    tables = importlib.import_module("deltat._c")
     library = tables.load(str(libraries / SONAME))
     yield from copies()
     yield from layouts(tables)

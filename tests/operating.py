@@ -142,7 +142,7 @@ def interrupted(place: Place) -> tuple[str, bool, str]:
 def shared(place: Place) -> tuple[str, bool, str]:
     """A folder that the library's module and this script use in turn."""
     name = "a folder of both"
-    if not (TOP / "lib" / "libdeltat.so.0").exists():
+    if not (TOP / "lib" / "libdeltat.so.2").exists():
         return name, True, "not tried: there is no library"
     sys.path.insert(0, str(TOP / "bindings" / "python"))
     import deltat

@@ -120,7 +120,8 @@ def files(root: Path) -> list[Case]:
     wanted = ["usr/lib/deltat/run-node", "usr/lib/deltat/params.py", "lib/systemd/system/deltat-node@.service", "usr/share/man/man1/deltat.1.gz",
               "usr/share/man/man5/deltat-formats.5.gz", "usr/share/bash-completion/completions/deltat", "usr/share/zsh/vendor-completions/_deltat"]
     if LIBRARY.exists():
-        wanted += ["usr/include/deltat.h", "usr/include/deltat.hpp", "usr/lib/python3/dist-packages/_deltat_c.py", "usr/lib/python3/dist-packages/deltat.py", "usr/lib/python3/dist-packages/deltat_record.py", "usr/lib/python3/dist-packages/deltat_service.py", "usr/lib/python3/dist-packages/deltat_state.py", "usr/share/man/man3/libdeltat.3.gz"]
+        wanted += ["usr/include/deltat.h", "usr/include/deltat.hpp", "usr/share/man/man3/libdeltat.3.gz", "usr/lib/python3/dist-packages/deltat/py.typed"]
+        wanted += [f"usr/lib/python3/dist-packages/deltat/{it.name}" for it in sorted((TOP / "bindings" / "python" / "deltat").glob("*.py"))]
         wanted += [f"usr/share/deltat/rust/{it}" for it in ("Cargo.toml", "deltat/src/lib.rs", "deltat-sys/build.rs", "deltat-sys/src/sys.rs")]
         wanted += [f"usr/lib/{os.uname().machine}-linux-gnu/{it}" for it in ("libdeltat.a", "libdeltat.so.2", "libdeltat.so", "pkgconfig/deltat.pc", "cmake/deltat/deltatConfig.cmake")]
     missing = [it for it in wanted if not (root / it).is_file()] + [it.name for it in (TOP / "docs").glob("*.md") if not (doc / "docs" / it.name).is_file()]
@@ -226,10 +227,10 @@ def used(root: Path, room: Path) -> list[Case]:
 # two nodes of the package's Python module, and a message
 ASKS = """import deltat
 params = deltat.Params(1000, 3000, 200, 100, 800, 500, 4096, 4096, 4096)
-one, two = (deltat.Node(it, params, [deltat.Link(1, 90)], {3 - it: 1}, again=False, at=0) for it in (1, 2))
+one, two = (deltat.Node(it, params, [deltat.Link(1, 90)], {3 - it: 1}, start=deltat.Start.FIRST, at=0) for it in (1, 2))
 one.send(deltat.Flow(1, 10, 2, 20), b"hello", at=0)
-for frame in one.frames():
-    two.arrive(frame.link, frame.octets, at=1)
+for frame in one.datagrams():
+    two.receive(frame.link, frame.octets, at=1)
 print([it.octets for it in two.messages(2)])
 """
 

@@ -33,6 +33,15 @@ def library(path: str | None) -> types.ModuleType | None:
     return importlib.import_module("deltat")
 
 
+def start_of(deltat: types.ModuleType, is_again: bool) -> object:
+    return deltat.Start.AGAIN if is_again else deltat.Start.FIRST
+
+
+def word_of(report: object) -> str:
+    """The word of a report in a log, as the definitions have it."""
+    return report.line(0, 0).split(" ")[2]
+
+
 class LibraryStation:
     """A station of the library: a plain node of it. `arrive` takes a link, a datagram, and what it waited."""
 
@@ -46,7 +55,7 @@ class LibraryStation:
         words = []
         for it in self.node.reports():
             self.all.append(it)
-            name = it.kind.name.lower()
+            name = word_of(it)
             if name in ("took", "settled", "uncertain", "accepted") or name == "released" and not it.sending:
                 words.append(Report(name, it.flow, it.count))
         return words
@@ -61,11 +70,12 @@ class LibraryStation:
         return ("taken",)
 
     def read(self, at: int, flow: Flow) -> Piece | None:
-        return self.node.read(flow, at)
+        it = self.node.read(flow, at)
+        return it and Piece(it.octets, it.begin, it.end, it.gap)
 
     def arrive(self, at: int, came: object) -> None:
         link, datagram, waited = came
-        self.node.arrive(link, datagram, waited, at)
+        self.node.receive(link, datagram, waited, at)
 
     def tick(self, at: int) -> None:
         self.node.tick(at)
@@ -76,13 +86,13 @@ class LibraryStation:
 
     def lines(self) -> list[str]:
         """What an event told of octets, as a row has it."""
-        return [row_line(it.kind.name.lower(), it) for it in self.all if it.kind.name.lower() in STATION_WORDS]
+        return [row_line(word_of(it), it) for it in self.all if word_of(it) in STATION_WORDS]
 
     def left(self) -> list[tuple[tuple[str, ...], object]]:
         """What left since this was asked last, to be handed over: beside each what was told as it was made."""
         told, self.all = self.all, []
-        makers = [before for before, it in zip(told, told[1:]) if it.kind.name == "PUT"]
-        return [(made(it.kind.name.lower(), it), (1, frame.octets, 0)) for it, frame in zip(makers, self.node.frames(), strict=True)]
+        makers = [before for before, it in zip(told, told[1:]) if word_of(it) == "put"]
+        return [(made(word_of(it), it), (1, frame.octets, 0)) for it, frame in zip(makers, self.node.datagrams(), strict=True)]
 
 
 class PlainStation(station_model.Station):
@@ -125,7 +135,7 @@ class Simulated:
     def station(self, me: int, at: int, is_again: bool) -> PlainStation | LibraryStation:
         if self.deltat:
             params = self.deltat.Params(**dataclasses.asdict(self.params))
-            node = self.deltat.Node(me, params, [self.deltat.Link(1, CHARGE)], {3 - me: 1}, again=is_again, at=at)
+            node = self.deltat.Node(me, params, [self.deltat.Link(1, CHARGE)], {3 - me: 1}, start=start_of(self.deltat, is_again), at=at)
             self.stations.append(LibraryStation(self.deltat, node))
         else:
             self.stations.append(PlainStation(me, self.params, at, is_again))
@@ -151,43 +161,50 @@ class Simulated:
 class Half:
     """The service of the library, asked as the model is. What is judged otherwise is asked the same way."""
 
-    def __init__(self, service: types.ModuleType, node: object) -> None:
-        self.service, self.node = service, node
+    # the words of the definitions, by the names of the binding
+    DECLINED = {"QUIET": "quiet", "FULL": "full", "TOO_MANY_CALLS": "many", "LIFE_USED_UP": "numbers"}
+    CAUSES = {"GIVEN_UP": "given up", "TIMEOUT": "patience", "STOPPED": "closed"}
+    COUNTS = {"late_replies": "late", "old_replies": "old", "unknown_replies": "strange", "reused_requests": "reused", "cut": "cut", "too_long": "long",
+              "too_short": "short"}
+
+    def __init__(self, deltat: types.ModuleType, node: object) -> None:
+        self.deltat, self.node = deltat, node
 
     def port(self, port: int, kind: str) -> None:
-        self.node.port(port, self.service.Kind(kind))
+        self.node.set_port(port, self.deltat.PortKind[kind.upper()])
 
     def call(self, at: int, flow: Flow, payload: bytes, patience: int) -> tuple[object, ...]:
         try:
-            return "made", self.node.call(flow, payload, patience, at)
-        except self.service.Declined as why:
-            return "declined", why.why, *([why.until] if why.why == "quiet" else [why.free] if why.why == "full" else [])
-        except self.service.deltat.BadParameter:
+            return "made", self.node.call(flow, payload, patience, at=at)
+        except self.deltat.Declined as why:
+            word = self.DECLINED[why.status.name]
+            return "declined", word, *([why.until] if word == "quiet" else [why.free] if word == "full" else [])
+        except self.deltat.InvalidArgument:
             return ("refused",)
 
     def reply(self, at: int, token: Token, payload: bytes) -> tuple[object, ...]:
-        return self._said(self.node.reply, self.service.Token(*token), payload, at)
+        return self._said(self.node.reply, self.deltat.Token(*token), payload, at)
 
     def forget(self, at: int, token: Token) -> tuple[object, ...]:
-        return self._said(self.node.forget, self.service.Token(*token), at)
+        return self._said(self.node.forget, self.deltat.Token(*token), at)
 
     def raise_life(self, life: int) -> tuple[object, ...]:
-        return self._said(self.node.raise_life, life)
+        return self._said(self.node.set_life, life)
 
     def _said(self, ask: object, *words: object) -> tuple[object, ...]:
         try:
             ask(*words)
-        except self.service.Gone:
+        except self.deltat.Gone:
             return ("gone",)
-        except self.service.deltat.Full as why:
+        except self.deltat.Full as why:
             return "full", why.free
-        except self.service.deltat.BadParameter:
+        except self.deltat.InvalidArgument:
             return ("refused",)
         return ("done",)
 
     def arrive(self, at: int, came: object) -> None:
         link, datagram, waited = came
-        self.node.arrive(link, datagram, waited, at)
+        self.node.receive(link, datagram, waited, at)
 
     def tick(self, at: int) -> None:
         self.node.tick(at)
@@ -198,19 +215,19 @@ class Half:
     @property
     def counts(self) -> dict[str, int]:
         """Those that aren't 0."""
-        return {name: it for name, it in self.node.call_counts()._asdict().items() if it}
+        return {self.COUNTS[name]: it for name, it in self.node.call_counts()._asdict().items() if it}
 
     def taken(self) -> list[tuple[object, ...]]:
         told = []
-        for it in self.node.happenings():
-            if isinstance(it, self.service.Request):
-                told.append(("request", Token(Flow(*it.token.flow), it.token.number), it.payload))
-            elif isinstance(it, self.service.Answered):
-                told.append(("answered", *it))
-            elif isinstance(it, self.service.ReplyUncertain):
+        for it in self.node.events():
+            if isinstance(it, self.deltat.Request):
+                told.append(("request", Token(Flow(*it.token.flow), it.token.call), it.payload))
+            elif isinstance(it, self.deltat.Answered):
+                told.append(("answered", it.call, it.answer))
+            elif isinstance(it, self.deltat.ReplyUncertain):
                 told.append(("doubtful", Flow(*it.flow)))
             else:
-                told.append(("unsure", it.number, it.cause.value))
+                told.append(("unsure", it.call, self.CAUSES[it.cause.name]))
         return told
 
 
@@ -254,11 +271,11 @@ class Pair(Alone):
         links, routes = [deltat.Link(it, WORLD_CHARGE) for it in others], {it: it for it in others}
         self.life = next(run.lives[me])
         params = deltat.Params(**dataclasses.asdict(run.params))
-        plain = deltat.Node(me, params, links, routes, again=is_again, at=run.at)
+        start = start_of(deltat, is_again)
+        plain = deltat.Node(me, params, links, routes, start=start, at=run.at)
         self.model = service_model.Node(me, self.life, LibraryStation(deltat, plain), run.limits, run.at)
-        service = importlib.import_module("deltat_service")
-        limits = service.Limits(run.limits.most_waiting, run.limits.most_open, run.limits.most_each)
-        self.other = Half(service, service.Service(me, self.life, params, links, routes, again=is_again, at=run.at, limits=limits))
+        limits = deltat.ServiceLimits(run.limits.most_waiting, run.limits.most_open, run.limits.most_each)
+        self.other = Half(deltat, deltat.Service(me, self.life, params, links, routes, start=start, at=run.at, limits=limits))
         for port, kind in PORTS:
             self.model.port(port, kind)
             self.other.port(port, kind)
@@ -275,7 +292,7 @@ class Pair(Alone):
         return statuses[0] or ()
 
     def left(self, me: int) -> list[tuple[int, object]]:
-        frames = list(self.model.station.node.frames()), list(self.other.node.frames())
+        frames = list(self.model.station.node.datagrams()), list(self.other.node.datagrams())
         holds(frames[0] == frames[1], "other frames than by the definitions")
         return [(it.to, (me, it.octets, 0)) for it in frames[0]]
 

@@ -101,7 +101,7 @@ def ping() -> bool:
     lost, told, _ = ended(start(PING, alone, nobody, "--count", "1", "--delay", "5"))
     last = said.splitlines()[-1] if said else ""
     print(f"ping: {last}")
-    return status == 0 and re.match(r"10 messages, 0 uncertain, \d+ sent again, [\d. ]+ ms$", last) is not None and lost == 1 and "1: 56 octets, uncertain" in told
+    return status == 0 and re.match(r"10 messages, 0 uncertain, \d+ resent, [\d. ]+ ms$", last) is not None and lost == 1 and "1: 56 octets, uncertain" in told
 
 
 def is_run_again(path: str) -> bool:

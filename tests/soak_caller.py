@@ -23,7 +23,6 @@ from soak_calls import EACH, LIBRARY, PORTS, SERVED_PORT, SERVICE, SPURS, Place,
 os.environ["DELTAT_LIBRARY"] = str(LIBRARY)
 sys.path.insert(0, str(TOP / "bindings" / "python"))
 import deltat  # noqa: E402
-import deltat_service as service  # noqa: E402
 
 REQUESTS, ANSWERS = (16, 40, 300, 1_400, 3_000), (16, 16, 300, 1_400)
 # the mean of what a reply waits, and the most between two calls, in seconds
@@ -60,15 +59,16 @@ class Caller:
         self.place, self.chance = place, random.Random(place.seed)
         self.notes = Notes(pathlib.Path(place.notes))
 
-    def opened(self) -> service.Service:
+    def opened(self) -> deltat.Service:
         """Its node, whose ports have their kinds."""
         place = self.place
         life = 1 if place.spoilt == "first" else self.notes.life
         routes = dict.fromkeys([place.next_hop, *(it for it in SPURS if it != place.number)], 1)
-        node = service.Service(place.number, life, deltat.Params(*place.params), [deltat.Link(1, place.charge)], routes, again=life > 1)
+        node = deltat.Service(place.number, life, deltat.Params(*place.params), [deltat.Link(1, place.charge)], routes,
+                              start=deltat.Start.AGAIN if life > 1 else deltat.Start.FIRST)
         ports = [SERVED_PORT] if place.number == SERVICE else PORTS
         for port in ports:
-            node.port(port, service.Kind.SERVICE if place.number == SERVICE else service.Kind.CALLER)
+            node.set_port(port, deltat.PortKind.SERVICE if place.number == SERVICE else deltat.PortKind.CALLER)
         return node
 
     def left(self) -> float:
@@ -77,11 +77,11 @@ class Caller:
     async def run(self) -> None:
         while self.left() > 0:
             async with deltat.AsyncUdp(self.opened(), (HOST, self.place.port), {self.place.next_hop: (HOST, self.place.to)}) as udp:
-                calls = service.AsyncCalls(udp)
+                calls = deltat.AsyncCalls(udp)
                 await (self.serve(calls) if self.place.number == SERVICE else self.ask(calls))
         self.notes.note("over")
 
-    async def serve(self, calls: service.AsyncCalls) -> None:
+    async def serve(self, calls: deltat.AsyncCalls) -> None:
         seconds = self.chance.uniform(0.4, 1) if self.place.spoilt == "first" else self.left()
         with contextlib.suppress(TimeoutError):
             async with asyncio.timeout(seconds), asyncio.TaskGroup() as replies:
@@ -97,25 +97,25 @@ class Caller:
             self.notes.note("served", call, answer)
         return answer
 
-    async def reply(self, calls: service.AsyncCalls, token: service.Token, answer: int) -> None:
+    async def reply(self, calls: deltat.AsyncCalls, token: deltat.Token, answer: int) -> None:
         await asyncio.sleep(self.chance.expovariate(1 / SERVING))
         await calls.reply(token, body(answer, self.chance.choice(ANSWERS)))
 
-    async def ask(self, calls: service.AsyncCalls) -> None:
+    async def ask(self, calls: deltat.AsyncCalls) -> None:
         async with asyncio.TaskGroup() as asking:
             for port in PORTS * EACH:
                 asking.create_task(self.ask_from(calls, port))
 
-    async def ask_from(self, calls: service.AsyncCalls, port: int) -> None:
+    async def ask_from(self, calls: deltat.AsyncCalls, port: int) -> None:
         """One call after another from a port, until the node's moment."""
         flow = deltat.Flow(self.place.number, port, SERVICE, SERVED_PORT)
         while self.left() > 0:
             call = self.notes.new_call(self.place.number, port)
             try:
                 answer = await calls.call(flow, body(call, self.chance.choice(REQUESTS)), self.place.patience)
-            except service.Unsure:
+            except deltat.Unsure:
                 self.notes.note("unsure", call)
-            except service.Declined as why:
+            except deltat.Declined as why:
                 self.notes.note("declined", call)
                 await asyncio.sleep(max(why.until - deltat.now(), 50) / 1000)
             else:

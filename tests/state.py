@@ -1,5 +1,5 @@
 #!/usr/bin/env python3
-"""The state folder of a node: bindings/python/deltat_state.py, and who else keeps its files. `tests/state.py [TEST ..]`;
+"""The state folder of a node: bindings/python/deltat/state.py, and who else keeps its files. `tests/state.py [TEST ..]`;
 ends with 77 where `make -C lib` hasn't made the library, and with 1 where one of these fails:
 
 - answers: what a start is, after no life, one that was closed in order, one that was killed, another boot, another
@@ -43,19 +43,19 @@ from collections.abc import Iterator
 
 from lib import HOST, TOP, free_port, is_up, skip
 
-LIBRARY = TOP / "lib" / "libdeltat.so.0"
+LIBRARY = TOP / "lib" / "libdeltat.so.2"
 if not LIBRARY.exists():
     skip(f"{LIBRARY} isn't there: make -C lib")
 sys.path.insert(0, str(TOP / "bindings" / "python"))
 import deltat  # noqa: E402
-import deltat_service  # noqa: E402
-import deltat_state  # noqa: E402
+from deltat import clock  # noqa: E402
+from deltat import state as state_module  # noqa: E402
 
 CAT = str(TOP / "tools" / "dtcat.py")
 # silent for 3 * 30 + 40 + 5 = 135 ms
 PARAMS = deltat.Params(mpl=30, r=40, a=5, rto=10, probe=20, seg=100, cap=4096, rcap=4096, window=4096)
 OTHER = deltat.Params(mpl=31, r=40, a=5, rto=10, probe=20, seg=100, cap=4096, rcap=4096, window=4096)
-QUIET = PARAMS.quiet
+QUIET = PARAMS.quiet_ms
 CHARGE = 10
 FLOW = deltat.Flow(1, 10, 2, 20)
 
@@ -79,16 +79,20 @@ logging.getLogger("deltat").propagate = False
 @contextlib.contextmanager
 def machine(boot: str, clock: int | None = 0) -> Iterator[None]:
     """A boot of a machine of the test's own."""
-    kept = deltat_state._boot, deltat_state._clock
-    deltat_state._boot, deltat_state._clock = (lambda: boot), (lambda: clock)
+    kept = state_module._boot, state_module._clock
+    state_module._boot, state_module._clock = (lambda: boot), (lambda: clock)
     try:
         yield
     finally:
-        deltat_state._boot, deltat_state._clock = kept
+        state_module._boot, state_module._clock = kept
 
 
 def boot_named(number: int) -> str:
     return f"00000000-0000-4000-8000-{number:012d}"
+
+
+def is_again(state: deltat.State) -> bool:
+    return state.start is deltat.Start.AGAIN
 
 
 def killed(state: deltat.State) -> None:
@@ -114,7 +118,7 @@ def one_life(folder: pathlib.Path, notes: list[int], opened: int, orderly: bool 
     for it in notes:
         state.note_packet(it)
     (deltat.State.close if orderly else killed)(state)
-    return state.again, at, state.life
+    return is_again(state), at, state.life
 
 
 def starts(folder: pathlib.Path) -> list[tuple[str, bool]]:
@@ -135,7 +139,7 @@ def starts(folder: pathlib.Path) -> list[tuple[str, bool]]:
     with machine(boot_named(2), None):
         found.append(("a clock that isn't known", one_life(folder, [], 900) == (True, 900, 12)))
         found.append(("once more", one_life(folder, [], 950) == (True, 950, 13)))
-    with machine(deltat_state._NO_BOOT):
+    with machine(state_module._NO_BOOT):
         found.append(("a machine that names no boots", one_life(folder, [], 990) == (True, 990, 14) and one_life(folder, [], 999) == (True, 999, 15)))
     return found
 
@@ -202,7 +206,7 @@ def refusals(top: pathlib.Path) -> list[tuple[str, bool]]:
             found.append((f"closed: {name}", fails(deltat.StateError, "is closed", call)))
         (folder / "state").write_text("node 3\n")
         found.append(("a damaged file of another number", fails(deltat.StateError, "of node 3", lambda: deltat.State(folder, 1, PARAMS))))
-        found.append(("no number", fails(deltat.BadParameter, "the node", lambda: deltat.State(folder, 1 << 32, PARAMS))))
+        found.append(("no number", fails(deltat.InvalidArgument, "node is 4294967296; it must be", lambda: deltat.State(folder, 1 << 32, PARAMS))))
         blocked = top / "file"
         blocked.write_text("")
         found.append(("no folder", fails(OSError, "file", lambda: deltat.State(blocked, 1, PARAMS))))
@@ -215,22 +219,22 @@ def with_nodes(top: pathlib.Path) -> list[tuple[str, bool]]:
     with deltat.State(top / "node", 1, PARAMS) as state:
         wrong = [lambda: deltat.Node(2, PARAMS, links, {2: 1}, state=state), lambda: deltat.Node(1, OTHER, links, {2: 1}, state=state)]
         found += [("a node with the state of another one", fails(deltat.StateError, "make a state", it)) for it in wrong]
-        both = lambda: deltat.Node(1, PARAMS, links, {2: 1}, again=True, state=state)  # noqa: E731
+        both = lambda: deltat.Node(1, PARAMS, links, {2: 1}, start=deltat.Start.AGAIN, state=state)  # noqa: E731
         found.append(("a node with both", fails(TypeError, "more than one start", both)))
         node = deltat.Node(1, PARAMS, links, {2: 1}, state=state)
         node.send(FLOW, b"x")
     found.append(("a node whose state is closed", fails(deltat.StateError, "is closed", lambda: node.send(FLOW, b"x"))))
-    found.append(("nothing was sent by it", len(list(node.frames())) == 1))
+    found.append(("nothing was sent by it", len(list(node.datagrams())) == 1))
     node.close()
     with deltat.State(top / "node", 1, PARAMS) as state:
-        wrong = lambda: deltat_service.Service(1, 1, PARAMS, links, {2: 1}, state=state)  # noqa: E731
-        found.append(("a service with a life of its own", fails(TypeError, "a life is given", wrong)))
-        service = deltat_service.Service(1, None, PARAMS, links, {2: 1}, state=state)
-        service.port(10, deltat_service.Kind.CALLER)
-        found.append(("a service that is silent still", 0 < state.silence() <= QUIET and fails(deltat_service.Declined, "quiet", lambda: service.call(FLOW, b"x", 100))))
+        wrong = lambda: deltat.Service(1, 1, PARAMS, links, {2: 1}, state=state)  # noqa: E731
+        found.append(("a service with a life of its own", fails(TypeError, "a life and a state were given", wrong)))
+        service = deltat.Service(1, None, PARAMS, links, {2: 1}, state=state)
+        service.set_port(10, deltat.PortKind.CALLER)
+        found.append(("a service that is silent still", 0 < state.silence() <= QUIET and fails(deltat.Declined, "silent until", lambda: service.call(FLOW, b"x", 100))))
         time.sleep(state.silence() / 1000)
         found.append(("and then calls", service.call(FLOW, b"x", 100) >> 32 == state.life == service.life == 2))
-        service.raise_life(state.next_life())
+        service.set_life(state.next_life())
         found.append(("by another life", service.call(FLOW, b"x", 100) >> 32 == 3 and "life 3\n" in (top / "node" / "state").read_text()))
         service.close()
     return found
@@ -244,7 +248,7 @@ params, folder = deltat.{PARAMS!r}, {str(top / 'full')!r}
 """
     after = begun + """state = deltat.State(folder, 1, params); node = deltat.Node(1, params, [deltat.Link(1, 10)], {2: 1}, state=state); full(); time.sleep(0.01)
 try: node.send(deltat.Flow(1, 1, 2, 1), b"x")
-except deltat.StateError as why: print(why, len(list(node.frames())), "frames")
+except deltat.StateError as why: print(why, len(list(node.datagrams())), "frames")
 """
     before = begun + "full()\ntry: deltat.State(folder, 1, params)\nexcept OSError as why: print(type(why).__name__)"
     told = [subprocess.run([sys.executable, "-c", it], capture_output=True, text=True, timeout=30).stdout for it in (after, before)]
@@ -256,8 +260,8 @@ def documented() -> list[tuple[str, bool]]:
     """The files that docs/formats.md shows are what this module reads and writes."""
     shown = re.findall(r"^```example\n(deltat .*?)```$", (TOP / "docs" / "formats.md").read_text(), re.MULTILINE | re.DOTALL)
     texts = {it.split()[1]: it.encode() for it in shown}
-    kept = deltat_state._Kept.read(texts.get("state", b""))
-    last = deltat_state._groups(deltat_state._LAST, texts.get("last", b""))
+    kept = state_module._Kept.read(texts.get("state", b""))
+    last = state_module._groups(state_module._LAST, texts.get("last", b""))
     return [("the page's `state`", kept is not None and kept.octets() == texts["state"]), ("the page's `last`", last is not None and len(texts["last"]) == 125)]
 
 
@@ -366,7 +370,7 @@ class Machine:
 
     def look(self, state: deltat.State) -> None:
         at = state.opens_at(self.now)
-        self.silent_until = at + QUIET if state.again else self.now
+        self.silent_until = at + QUIET if is_again(state) else self.now
         if self.last and self.last[0] == self.boot and self.silent_until < self.last[1] + QUIET:
             self.wrong.append(f"silent until {self.silent_until}, and the last datagram was at {self.last[1]} ({state.why})")
         if self.boot != self.opened[0] and at < self.now:
@@ -415,7 +419,7 @@ def child(folder: str, log: str, base: int) -> None:
         os.write(told, f"life {state.life}\n".encode())
         for it in MOMENTS:
             state.note_packet(base + it)
-            if not state.again or base + it >= opened + QUIET:
+            if not is_again(state) or base + it >= opened + QUIET:
                 os.write(told, f"left {base + it}\n".encode())
 
 
@@ -440,11 +444,11 @@ def what_is_answered(folder: pathlib.Path, log: pathlib.Path, now: int) -> str:
     lives = [int(it.split()[1]) for it in lines if it.startswith("life ")]
     with machine(boot_named(1)), deltat.State(folder, 1, PARAMS) as state:
         at = state.opens_at(now)
-        until = at + QUIET if state.again else now
+        until = at + QUIET if is_again(state) else now
         if left and until < max(left) + QUIET:
             return f"silent until {until}, and the last datagram left at {max(left)}"
-        if at > now or left and not state.again or state.life in lives:
-            return f"opened at {at} as {state.again}, life {state.life}"
+        if at > now or left and not is_again(state) or state.life in lives:
+            return f"opened at {at} as {is_again(state)}, life {state.life}"
     return ""
 
 
@@ -531,7 +535,7 @@ class World:
         while self.under_way and self.under_way[0][0] <= self.now:
             _, _, to, octets = heapq.heappop(self.under_way)
             if to in self.nodes:
-                self.nodes[to][1].arrive(1, octets)
+                self.nodes[to][1].receive(1, octets)
         for number, (_, node) in self.nodes.items():
             node.tick()
             if number == 1 and not self.open and self.chance.random() < 0.1:
@@ -548,12 +552,12 @@ class World:
         for message in node.messages():
             self.delivered[int.from_bytes(message.octets, "big")] += 1
         for it in node.reports():
-            if number == 1 and it.kind in (deltat.Kind.SETTLED, deltat.Kind.UNCERTAIN):
+            if number == 1 and it.kind in (deltat.ReportKind.ACKNOWLEDGED, deltat.ReportKind.UNCERTAIN):
                 for _ in range(it.count // 8):
                     done = self.open.popleft()
-                    if it.kind is deltat.Kind.SETTLED:
+                    if it.kind is deltat.ReportKind.ACKNOWLEDGED:
                         self.settled.append(done)
-        for frame in node.frames():
+        for frame in node.datagrams():
             for _ in range(self.chance.choice((0, 1, 1, 2, 3))):
                 due = self.now + self.chance.randrange(CHARGE + 1)
                 heapq.heappush(self.under_way, (due, self.chance.getrandbits(30), frame.to, frame.octets))
@@ -581,18 +585,18 @@ class Deaf(deltat.State):
 def worlds(kind: type[deltat.State], count: int) -> tuple[int, int, int]:
     """How many runs were wrong, and how many messages were delivered and acknowledged."""
     wrong = delivered = settled = 0
-    kept = deltat.now
+    kept = clock.now
     for seed in range(count):
         with tempfile.TemporaryDirectory(dir="/dev/shm" if os.path.isdir("/dev/shm") else None) as folder, machine(boot_named(1)):
             it = World(seed, pathlib.Path(folder), kind)
-            deltat.now = lambda: it.now
+            clock.now = lambda: it.now
             try:
                 for _ in range(3000):
                     it.step()
                 for number in list(it.nodes):
                     it.stop(number)
             finally:
-                deltat.now = kept
+                clock.now = kept
             wrong += it.is_wrong
             delivered, settled = delivered + len(it.delivered), settled + len(it.settled)
     return wrong, delivered, settled
@@ -673,26 +677,26 @@ def fresh() -> bool:
     heard = []
     ports = free_port(), free_port()
     usual = deltat.Params(mpl=102, r=195, a=2, rto=39, probe=78, seg=1442, cap=65536, rcap=65536, window=65536)
-    server = deltat.Node(2, usual, [deltat.Link(1, 74)], {}, again=True)
+    server = deltat.Node(2, usual, [deltat.Link(1, 74)], {}, start=deltat.Start.AGAIN)
     begun = time.monotonic()
     with deltat.Udp(server, (HOST, ports[1]), {1: (HOST, ports[0])}) as udp:
-        udp.settle(usual.quiet / 1000)
+        udp.run_for(usual.quiet_ms / 1000)
         for it in range(20):
             number = deltat.fresh_number()
-            node = deltat.Node(number, usual, [deltat.Link(1, 74)], {2: 1}, again=False)
+            node = deltat.Node(number, usual, [deltat.Link(1, 74)], {2: 1}, start=deltat.Start.FIRST)
             with deltat.Udp(node, (HOST, ports[0]), {2: (HOST, ports[1])}) as client:
                 client.send(deltat.Flow(number, 10, 2, 20), b"%d" % it)
                 until, is_settled = time.monotonic() + 2, False
                 while not is_settled and time.monotonic() < until:
                     heard += [int(message.octets) for message in udp.poll(0.005)]
                     for report in server.reports():
-                        if report.kind is deltat.Kind.NO_ROUTE:
-                            with contextlib.suppress(deltat.BadParameter):
+                        if report.kind is deltat.ReportKind.NO_ROUTE:
+                            with contextlib.suppress(deltat.InvalidArgument):
                                 server.add_route(report.number, 1)
                     client.poll(0.005)
-                    is_settled = any(report.kind is deltat.Kind.SETTLED for report in node.reports())
+                    is_settled = any(report.kind is deltat.ReportKind.ACKNOWLEDGED for report in node.reports())
                 right &= is_settled
-    seconds = time.monotonic() - begun - usual.quiet / 1000
+    seconds = time.monotonic() - begun - usual.quiet_ms / 1000
     print(f"fresh: {len(heard)} of 20 were heard, in {seconds:.1f} s")
     return right and heard == list(range(20)) and seconds < 8
 

@@ -1,13 +1,12 @@
 #!/usr/bin/env python3
-"""The datagrams of a recorded run as a capture file: `tools/capture.py SCRIPT TRACE > FILE.pcapng`.
+"""Writes the datagrams of a recorded run as a capture file: `tools/capture.py SCRIPT TRACE > FILE.pcapng`.
 
-SCRIPT is the script of a node, and TRACE what `deltat trace` wrote of its run. What came stands in the
-trace. What left follows from running it again: the lines of `deltat retrace` say which packets were made
-and when they left, and the script has their octets. FILE opens in Wireshark, with tools/wireshark/deltat.lua.
+SCRIPT is the script of a node, and TRACE is what `deltat trace` wrote of its run. The trace has the datagrams that
+arrived. A repeated run gives those that left: the lines of `deltat retrace` say which packets were made and when they
+left, and the script has their octets. FILE opens in Wireshark, with tools/wireshark/deltat.lua.
 
-Moments are those of the node: a datagram that left has that of its turn, and one that came that of the
-turn which it was handed to. A datagram whose give failed never left, and isn't there. Each packet is
-marked as inbound or outbound."""
+Times are the node's: a datagram that left has the time of its step, and one that arrived has the time of the step that
+received it. A datagram that the socket didn't take isn't in the file. Each packet is marked as inbound or outbound."""
 import argparse
 import pathlib
 import shutil
@@ -82,7 +81,7 @@ def read_script(text: str) -> Script:
             elif words[0] == "at" and words[2] == "send":
                 sends.append(bytes.fromhex(words[5]))
         except (ValueError, IndexError):
-            raise Refused(f"line {number} of the script doesn't read: {line[:60]}") from None
+            raise Refused(f"line {number} of the script isn't valid: {line[:60]}; give the script that the node ran") from None
     if not text.endswith("\n"):
         text += "\n"
     return Script(text, life, node, local, peers, charges, routes, sends)
@@ -131,7 +130,7 @@ def run_again(program: str, text: str) -> tuple[int, list[str]]:
     lines = ran.stdout.decode("ascii").splitlines()
     if ran.returncode in (0, 3, 5, 6):
         return ran.returncode, lines
-    raise Refused(f"the run can't be run again: {ran.stderr.decode().strip()} (status {ran.returncode})")
+    raise Refused(f"{program} retrace failed with status {ran.returncode}: {ran.stderr.decode().strip()}")
 
 
 def log_of(program: str, script: Script, trace: str, text: str) -> list[str]:
@@ -139,8 +138,8 @@ def log_of(program: str, script: Script, trace: str, text: str) -> list[str]:
     status, lines = run_again(program, text)
     if status == 3:
         _, plain = run_again(program, script.text + "trace\n" + trace)
-        fault = plain[-1] if plain and plain[-1].startswith("line ") else "the input is too long"
-        raise Refused(f"the run can't be run again: {fault}")
+        fault = plain[-1] if plain and plain[-1].startswith("line ") else "script and trace are too long together"
+        raise Refused(f"{program} retrace refused the run: {fault}; give the script and the trace of one run")
     return lines
 
 
@@ -284,7 +283,7 @@ def main() -> int:
     parser.add_argument("--start", type=float, default=0.0, metavar="SECONDS", help="when the run began, in seconds since 1970 (default: 0)")
     given = parser.parse_args()
     if sys.stdout.isatty():
-        parser.error("the capture would go to a terminal: put > FILE.pcapng behind it")
+        parser.error("standard output is a terminal; add > FILE.pcapng")
     try:
         texts = [pathlib.Path(it).read_text(encoding="latin-1") for it in (given.script, given.trace)]
         script = read_script(texts[0])

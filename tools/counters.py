@@ -1,14 +1,13 @@
 #!/usr/bin/env python3
-"""Counts what the log of a node tells, as it comes on standard input, in Prometheus' text format:
+"""Reads the log of a node from standard input and writes counters in Prometheus' text format:
 `deltat node < SCRIPT | tools/counters.py --file PATH`, or `--listen PORT`, or both.
 
-The file is replaced as a whole each time, so that a reader never finds a part of it; a node exporter's
-textfile collector can take it. The port is one of 127.0.0.1, and serves any path. Without either the
-counts go to standard output when the log ends. `--through` passes the log on to standard output.
+The file is replaced as a whole each time, so that a reader never finds a part of it; a node exporter's textfile
+collector can take it. The port is one of 127.0.0.1, and serves any path. With neither, the counters are written to
+standard output when the log ends. `--through` passes the log on to standard output.
 
-Counts go by node and flow, by node and link, or by node. Memory is bounded: of --flows flows and nodes
-each there are counts of their own, those of all others go together as "other", and a line that is longer
-than any that a node writes is skipped."""
+Counters are by node and flow, by node and link, or by node. Memory is bounded: --flows flows and nodes each have their
+own counters, all others are counted together as "other", and a line that is longer than any of a node is skipped."""
 import argparse
 import os
 import re
@@ -277,7 +276,7 @@ def write_again(path: str, counts: Counts, every: float, ended: threading.Event)
         try:
             write(path, counts.text())
         except OSError as fault:
-            print(f"counters.py: {path}: {fault.strerror}", file=sys.stderr)
+            print(f"counters.py: {path} can't be written: {fault.strerror}; the counters there are old", file=sys.stderr)
         if last:
             return
 
@@ -290,8 +289,10 @@ def arguments() -> argparse.Namespace:
     parser.add_argument("--flows", type=int, default=10_000, metavar="N", help="flows with counts of their own (default: %(default)s)")
     parser.add_argument("--through", action="store_true", help="pass the log on to standard output")
     given = parser.parse_args()
-    if given.every <= 0 or given.flows < 1:
-        parser.error("--every and --flows are above 0")
+    if given.every <= 0:
+        parser.error(f"--every is {given.every:g}; it must be above 0")
+    if given.flows < 1:
+        parser.error(f"--flows is {given.flows}; it must be at least 1")
     return given
 
 
@@ -305,7 +306,7 @@ def main() -> int:
             writer.start()
         if given.listen is not None:
             server = serve(given.listen, counts)
-            print(f"counters.py: http://127.0.0.1:{server.server_port}/metrics", file=sys.stderr, flush=True)
+            print(f"counters.py: the counters are at http://127.0.0.1:{server.server_port}/metrics", file=sys.stderr, flush=True)
         follow(sys.stdin.buffer, counts, sys.stdout.buffer if given.through else None)
     except KeyboardInterrupt:
         pass

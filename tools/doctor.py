@@ -1,13 +1,12 @@
 #!/usr/bin/env python3
-"""Says what in the scripts of a network's nodes endangers the promise or the traffic.
+"""Reports what in the scripts of a network's nodes endangers the promise or the traffic.
 
     tools/doctor.py SCRIPT .. [--drift PPM] [--mtu N] [--delay MS] [--round-trip MS]
 
-Give the scripts of all nodes at once. What is found stands line by line, as FILE:LINE: SEVERITY: TEXT; and
-then what to do. The severities: `danger`, the promise itself is in danger; `warning`, packets get lost that
-need not; `note`, what a flow can carry at most.
+Give the scripts of all nodes at once. Each finding is a line, FILE:LINE: SEVERITY: TEXT; WHAT TO DO. The severities:
+`danger`, the promise itself is in danger; `warning`, packets get lost needlessly; `note`, how much a flow can carry.
 
-Ends with 1 where the promise is in danger, with 2 where a script can't be read or is refused, else with 0."""
+Ends with 1 if the promise is in danger, with 2 if a script can't be read or is refused, and otherwise with 0."""
 import argparse
 import itertools
 import math
@@ -113,8 +112,8 @@ def charges(script: Script, world: World) -> Iterator[Finding]:
     link = f", {least - own} of the link" if least > own else ""
     for peer in script.peers:
         if peer.charge < least:
-            text = f"link {peer.link} charges {peer.charge} ms, and {least} may pass: {parts}{link}"
-            yield Finding(script.path, peer.line, "danger", text, f"let it charge the link's longest delay and {own} ms")
+            text = f"link {peer.link} charges {peer.charge} ms, and a packet may take {least}: {parts}{link}"
+            yield Finding(script.path, peer.line, "danger", text, f"set its charge to the link's longest delay and {own} ms")
 
 
 def shared(script: Script) -> Iterator[Finding]:
@@ -124,8 +123,8 @@ def shared(script: Script) -> Iterator[Finding]:
         first = seen.setdefault(peer.address, peer)
         if first is not peer:
             low = first.charge < peer.charge
-            text = f"link {peer.link} has the address of link {first.link}, and what comes from there is charged {first.charge} ms"
-            yield Finding(script.path, peer.line, "danger" if low else "warning", text, "let each link have an address of its own")
+            text = f"link {peer.link} has the address of link {first.link}, so packets from there are charged {first.charge} ms"
+            yield Finding(script.path, peer.line, "danger" if low else "warning", text, "give each link an address of its own")
 
 
 def ends(scripts: list[Script], script: Script) -> Iterator[Finding]:
@@ -133,9 +132,9 @@ def ends(scripts: list[Script], script: Script) -> Iterator[Finding]:
     for peer in script.peers:
         other = neighbour(scripts, script, peer)
         if other is None:
-            yield Finding(script.path, peer.line, "warning", f"no script is of a node at {peer.address}", "give that node's script too, or mend the address")
+            yield Finding(script.path, peer.line, "warning", f"no script has a node at {peer.address}", "give that node's script too, or correct the address")
         elif way_back(other, script) is None:
-            text = f"{other.path} has no peer at {script.local}, so node {other.me} drops what comes from here"
+            text = f"{other.path} has no peer at {script.local}, so node {other.me} drops packets from here"
             yield Finding(script.path, peer.line, "warning", text, f"give it a line `peer L {script.local} CHARGE PACE`")
 
 
@@ -145,7 +144,7 @@ def locals_of(scripts: list[Script]) -> Iterator[Finding]:
     for script in scripts:
         other = seen.setdefault(script.local, script)
         if other is not script and script.local.ip != "0.0.0.0":
-            text = f"{script.local} is also that of {other.path}:{other.local_line}"
+            text = f"{script.local} is also the address at {other.path}:{other.local_line}"
             yield Finding(script.path, script.local_line, "warning", text, "give each node an address of its own")
 
 
@@ -159,7 +158,7 @@ def walk(scripts: list[Script], start: Script, to: int) -> tuple[Path | None, Fi
         first = first or route
         line = first.line if first else start.me_line
         if route is None:
-            text = f"packets for node {to} come to node {at.me}, which has no route there"
+            text = f"packets for node {to} arrive at node {at.me}, which has no route there"
             return None, Finding(start.path, line, "warning", text, f"give {at.path} a line `route {to} L`")
         peer = at.peer(route.link)
         after = neighbour(scripts, at, peer)
@@ -172,7 +171,7 @@ def walk(scripts: list[Script], start: Script, to: int) -> tuple[Path | None, Fi
         if after.me == to:
             return path, None
         if after in seen:
-            return None, Finding(start.path, line, "warning", f"packets for node {to} go round by node {after.me}", "let the routes end there")
+            return None, Finding(start.path, line, "warning", f"packets for node {to} loop through node {after.me}", "change the routes so that they end there")
         seen.append(after)
         at = after
 
@@ -180,7 +179,7 @@ def walk(scripts: list[Script], start: Script, to: int) -> tuple[Path | None, Fi
 def lives(start: Script, to: int, path: Path) -> Iterator[Finding]:
     """A packet lives long enough for its path."""
     if path.life() >= start.params.mpl:
-        text = f"{len(path.charges)} links to node {to} charge {sum(path.charges)} ms, the stations {len(path.charges)} or more, and a packet lives {start.params.mpl}"
+        text = f"{len(path.charges)} links to node {to} charge {sum(path.charges)} ms, the stations {len(path.charges)} or more, and mpl is {start.params.mpl}"
         yield Finding(start.path, start.route(to).line, "warning", text, "give all nodes a greater mpl")
 
 
@@ -189,7 +188,7 @@ def shelved(start: Script, other: Script, path: Path) -> Iterator[Finding]:
     millisecond more that this costs."""
     left = start.params.mpl - path.life()
     if other.shelf and 0 < left < start.params.rto + 2:
-        text = f"packets for node {other.me} have {left} ms of life left for its shelf, and a lost one before them goes again after {start.params.rto}"
+        text = f"packets for node {other.me} have {left} ms of lifetime left for its shelf, and a lost one before them is resent after {start.params.rto}"
         yield Finding(start.path, start.route(other.me).line, "warning", text, "give all nodes an mpl that is greater by two rto")
 
 
@@ -197,7 +196,7 @@ def windows(start: Script, other: Script) -> Iterator[Finding]:
     """A new flow sends no more than there is room for at the other node."""
     if start.params.window > other.params.rcap:
         text = f"window is {start.params.window}, and node {other.me} has room for {other.params.rcap} octets ({other.path}:{other.params_line})"
-        yield Finding(start.path, start.params_line, "warning", text, "let window be at most the other's rcap")
+        yield Finding(start.path, start.params_line, "warning", text, "set window to at most the other's rcap")
 
 
 def carries(start: Script, other: Script, path: Path, back: Path, world: World) -> Finding:
@@ -205,7 +204,7 @@ def carries(start: Script, other: Script, path: Path, back: Path, world: World) 
     told = world.round_trip is not None
     trip = world.round_trip if told else path.life() + back.life()
     most = par.least_ceiling(start.params, other.params, trip, path.pace())
-    text = f"a flow to node {other.me} carries at most {par.rate_text(most.rate)} by {most.by}, where a round trip is {trip:g} ms"
+    text = f"a flow to node {other.me} carries at most {par.rate_text(most.rate)} by {most.by}, if a round trip is {trip:g} ms"
     return Finding(start.path, start.route(other.me).line, "note", text, "" if told else "that is the longest; give --round-trip for a usual one")
 
 
@@ -237,7 +236,7 @@ def paths(scripts: list[Script], world: World) -> Iterator[Finding]:
         for route in start.routes:
             other = by_number.get(route.to)
             if other is None:
-                yield Finding(start.path, route.line, "warning", f"no script is of node {route.to}", "give that node's script too, or mend the number")
+                yield Finding(start.path, route.line, "warning", f"no script has node {route.to}", "give that node's script too, or correct the number")
                 continue
             path, wrong = walk(scripts, start, route.to)
             back, wrong_back = walk(scripts, other, start.me)
@@ -266,8 +265,8 @@ def segments(script: Script, world: World) -> Iterator[Finding]:
     """A segment with its headers fits into one packet of the link."""
     size = script.params.seg + par.HEADERS
     if size > world.mtu:
-        text = f"a segment of {script.params.seg} octets makes packets of {size}, and the MTU is {world.mtu}, so they go in fragments, which may be put together wrongly"
-        yield Finding(script.path, script.params_line, "warning", text, f"let seg be at most {max(1, world.mtu - par.HEADERS)}")
+        text = f"a segment of {script.params.seg} octets makes packets of {size}, and the MTU is {world.mtu}, so they are sent in fragments, which may be joined wrongly"
+        yield Finding(script.path, script.params_line, "warning", text, f"set seg to at most {max(1, world.mtu - par.HEADERS)}")
 
 
 def findings(scripts: list[Script], world: World) -> list[Finding]:
@@ -288,7 +287,7 @@ def read_all(names: Iterable[str]) -> tuple[list[Script], list[str]]:
         except OSError as why:
             wrong.append(f"{name}: error: {why.strerror}; give the path of a script")
         except Refused as why:
-            wrong.append(f"{name}:{why.line}: error: {why.fault}; the program refuses this line, see docs/formats.md")
+            wrong.append(f"{name}:{why.line}: error: {why.fault}; the program refuses this line; docs/formats.md explains the fault")
     return scripts, wrong
 
 

@@ -1,19 +1,19 @@
 #!/usr/bin/env python3
-"""Lines from standard input go to another node as messages, and messages that come go to standard output as lines.
+"""Sends lines of standard input to another node as messages, and writes messages that arrive as lines.
 
     tools/dtcat.py 1@4001 2@4002                    one end, on this machine
     tools/dtcat.py 2@4002 1@4001                    the other one
     seq 1000 | tools/dtcat.py 1@10.0.0.1:4001 2@10.0.0.2:4001
 
-Each line comes at most once, whole, and in order. Both ends say the same --delay and --round-trip. With --whole all of
-standard input is one message of at most 65,536 octets, and messages are written as they are. A start that follows
-another one of the same node waits first: until the quiet time since that one's last datagram is over (half a second
-with the usual delays), as the node's state folder says.
+Each line arrives at most once, whole, and in order. Pass the same --delay and --round-trip at both ends. With --whole
+all of standard input is one message of at most 65,536 octets, and messages are written as they are. The node has a
+state folder: a start waits for the rest of the quiet time since the last datagram of the run before (the quiet time is
+half a second with the usual delays).
 
-It ends when standard input has ended and all that was sent is acknowledged or given up, and with --linger SECONDS so
-much later; with --listen it sends nothing and goes on until it is interrupted. Statuses: 0 all was acknowledged; 1
-something is uncertain, and standard error tells how many octets: they may have come or not; 2 the words are wrong, or
-the library or the port can't be had."""
+It ends when standard input has ended and all that was sent is acknowledged or given up, and --linger SECONDS later.
+With --listen it sends nothing and runs until it is interrupted. Statuses: 0 all was acknowledged; 1 something is
+uncertain, and standard error has how many octets: each was delivered once or not at all; 2 the words are wrong, or the
+library, the state folder or the port can't be used."""
 import argparse
 import os
 import select
@@ -88,7 +88,7 @@ def talk(end: live.Live, asked: argparse.Namespace) -> int:
         if time.monotonic() >= until:
             break
     if end.uncertain:
-        print(f"dtcat.py: {end.uncertain} of {end.taken} octets are uncertain: they may have come or not", file=sys.stderr)
+        print(f"dtcat.py: {end.uncertain} of {end.queued} octets are uncertain: each was delivered once or not at all", file=sys.stderr)
     return 1 if end.uncertain else 0
 
 

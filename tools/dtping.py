@@ -1,13 +1,13 @@
 #!/usr/bin/env python3
-"""How long a message takes to another node and its acknowledgement back, and how much is lost.
+"""Measures how long a message takes to another node and its acknowledgement back, and how many are lost.
 
     tools/dtping.py 1@4001 2@4002 --count 10
 
-Sends a message of --size octets every --interval seconds and writes a line for each: when its acknowledgement came, or
-that it was given up. The other end is any node of the same --delay and --round-trip: tools/dtcat.py --listen, a program
-over the library, or `deltat node`; it needs not answer. At the end stand counts: messages, how many are uncertain, how
-often a segment went again, and the least, the median and the longest time. Statuses: 0 all were acknowledged; 1 some
-are uncertain; 2 the words are wrong, or the library or the port can't be had."""
+Sends a message of --size octets every --interval seconds and writes a line for each: when it was acknowledged, or that
+it was given up. The other end is any node of the same --delay and --round-trip: tools/dtcat.py --listen, a program with
+the library, or `deltat node`. It needn't answer. At the end the tool writes how many messages were sent, how many are
+uncertain, how many segments were resent, and the least, median and longest time. Statuses: 0 all were acknowledged; 1
+some are uncertain; 2 the words are wrong, or the library, the state folder or the port can't be used."""
 import argparse
 import statistics
 import sys
@@ -52,10 +52,10 @@ def ping(end: live.Live, asked: argparse.Namespace) -> int:
             took.append(1000 * found)
         print(f"{number_of}: {asked.size} octets, " + (f"{took[-1]:.1f} ms" if found is not None else "uncertain"), flush=True)
         if number_of < asked.count:
-            end.udp.settle(max(asked.interval - (time.monotonic() - begun), 0))
+            end.udp.run_for(max(asked.interval - (time.monotonic() - begun), 0))
     lost = asked.count - len(took)
     times = f", {min(took):.1f} {statistics.median(took):.1f} {max(took):.1f} ms" if took else ""
-    print(f"{asked.count} messages, {lost} uncertain, {end.resent} sent again{times}")
+    print(f"{asked.count} messages, {lost} uncertain, {end.resent} resent{times}")
     return 1 if lost else 0
 
 

@@ -4,18 +4,17 @@
     tools/fieldaudit.py LOG .. | deltat audit
     tools/fieldaudit.py LOG .. --deltat PROGRAM [--out FILE]
 
-Give the logs of all nodes of a run. A node that was started more than once has several logs: give them in
-their order (or one behind the other in one file). The clocks of the nodes needn't agree: the lines are put
-into an order that they force themselves. What was accepted was sent before; what was acknowledged by an
-acknowledgement that a node sent was acknowledged after that; what a node wrote stands in its order. Where
-an order is left in which what was acknowledged was accepted before, that order is taken. Where there is
-none, that is said as `no order`, with the lines that have none, and the lines stand as well as they can.
+Give the logs of all nodes of a run. A node that was started more than once has several logs: give them in their order,
+or one after the other in one file. The clocks of the nodes needn't agree: the lines themselves force their order.
+Octets that were accepted were sent earlier. Octets are acknowledged after the acknowledgement was sent. Each node's
+lines keep their order. If there is an order in which all that was acknowledged was accepted earlier, it is taken. If
+there is none, `no order` is written with the lines that have none, and the other lines are merged as well as possible.
 
-Only the lines that an audit judges are written. With --deltat the program judges, and what it finds is told
-with the file and the line in which it stands; --out keeps the merged log.
+Only the lines that an audit judges are written. With --deltat the program judges them, and a flaw is written with its
+file and line; --out keeps the merged log.
 
-Ends with 0 where there is an order and, with --deltat, the audit finds nothing; with 1 where there is none
-or it finds a flaw; with 2 where a log can't be read."""
+Ends with 0 if there is an order and, with --deltat, the audit finds nothing; with 1 if there is none or the audit finds
+a flaw; with 2 if a log can't be read."""
 import argparse
 import heapq
 import statistics
@@ -289,7 +288,7 @@ def judged(program: str, lines: list[Entry]) -> tuple[bool, str]:
     if ran.returncode == 0:
         return True, said
     if ran.returncode != 3 or not said.startswith("line "):
-        raise OSError(0, ran.stderr.decode().strip() or f"status {ran.returncode}", program)
+        raise OSError(0, f"the audit failed with status {ran.returncode}: {ran.stderr.decode().strip()}", program)
     number, flaw = said.removeprefix("line ").split(": ", 1)
     it = lines[int(number) - 1]
     return False, f"{it.place()}: {flaw}: {it.text}"
@@ -313,10 +312,10 @@ def main() -> int:
             Path(asked.out).write_bytes(text.encode("latin-1"))
         well, said = judged(asked.deltat, lines) if asked.deltat else (True, "")
     except NoLog as why:
-        print(why, file=sys.stderr)
+        print(f"fieldaudit.py: {why}", file=sys.stderr)
         return 2
     except OSError as why:
-        print(f"{why.filename}: {why.strerror}", file=sys.stderr)
+        print(f"fieldaudit.py: {why.filename}: {why.strerror}", file=sys.stderr)
         return 2
     for it in order.notes:
         print(f"note: {it}", file=sys.stderr)

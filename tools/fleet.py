@@ -1,5 +1,5 @@
 #!/usr/bin/env python3
-"""One description of a network gives the script of each node, and the schedule of the same world.
+"""Makes the script of each node, and the schedule of the same world, from one description of a network.
 
     tools/fleet.py NETWORK.toml --out FOLDER
 
@@ -8,32 +8,32 @@ The description:
     [network]            # each line of this part may be left out
     round_trip = 40      # a usual round trip, in ms; without it twice the delay of the longest path
     drift = 100          # how wrong a clock may be, in parts in a million
-    tries = 5            # how often a segment goes out before it is given up
+    tries = 5            # transmissions of a segment before it is given up
     room = 65536         # the octets that a flow may have under way, and unread
-    shelf = 64           # packets that come too early are kept, and live long enough for it; 0 for none
+    shelf = 64           # how many packets that arrive too early are kept; 0 for none
     stop = 60000         # when the nodes stop, in ms
 
     [[node]]
     name = "depot"       # its script is depot.script
     number = 1
     address = "depot.example:4001"
-    start = "first"      # or "again", which is what it is without this line
+    start = "first"      # or "again", as without this line
     commands = ["at 1000 send 1:10>2:20 be 68656c6c6f"]   # may be left out
 
     [[link]]
     ends = ["depot", "mast"]
-    delay = 30           # the longest that a packet may be under way, in ms, queues of the network included
-    mtu = 1500           # may be left out, as all that follows
-    drift = 200          # of the clocks at its ends, where that of the network isn't right
+    delay = 30           # the longest time that a packet may be under way, in ms, with all queues of the network
+    mtu = 1500           # may be left out, as all below
+    drift = 200          # of the clocks at its ends, if it differs from the network's
     pace = 0             # the least time between two packets, in ms
     queue = 8            # how many packets may wait for that
 
-A packet goes to each node by the links of the least delay together. The parameters, the charges and the
-routes follow from the delays; host names are looked up once, here. FOLDER gets NAME.script for each node,
-and network.schedule for `deltat replay`, with what is sent and read, and no arrivals. The last line that is
-written says how tools/doctor.py looks at the scripts.
+A packet travels to each node by the path of the least delay. The parameters, the charges and the routes follow from the
+delays; host names are looked up once, here. FOLDER gets NAME.script for each node, and network.schedule for
+`deltat replay`, with the sends and reads, and no arrivals. The last line of the output is the command of tools/doctor.py
+for these scripts.
 
-Ends with 0, or with 2 where the description can't be read or has no such network."""
+Ends with 0, or with 2 if the description can't be read or has a fault."""
 import argparse
 import heapq
 import re
@@ -109,10 +109,10 @@ def checked(where: str, table: dict[str, Any], rules: dict[str, tuple], others: 
         if key in others:
             continue
         if key not in rules:
-            raise Wrong(f"{where}: `{key}` is no part of it; it has {', '.join([*others, *rules])}")
+            raise Wrong(f"{where}: unknown key: {key}; the keys are {', '.join([*sorted(others), *rules])}")
         kind, least, most = rules[key]
         if isinstance(value, bool) or not isinstance(value, (int, float)) or kind is int and not isinstance(value, int) or not least <= value <= most:
-            raise Wrong(f"{where}: {key} is {value}, and should be {'a whole number' if kind is int else 'a number'} from {least} to {most}")
+            raise Wrong(f"{where}: {key} is {value}; it must be {'a whole number' if kind is int else 'a number'} from {least} to {most}")
     return table
 
 
@@ -121,18 +121,18 @@ def node_of(place: int, table: Any) -> Node:
     where = f"node {place + 1}"
     rules = {"number": (int, 0, 2**32 - 1)}
     if not isinstance(table, dict):
-        raise Wrong(f"{where}: it isn't a table [[node]]")
+        raise Wrong(f"{where}: it isn't a table; write [[node]]")
     checked(where, table, rules, {"name", "address", "start", "commands"})
     missing = {"name", "number", "address"} - set(table)
     if missing:
-        raise Wrong(f"{where}: {' and '.join(sorted(missing))} is missing")
+        raise Wrong(f"{where}: {' and '.join(sorted(missing))} {'is' if len(missing) == 1 else 'are'} missing")
     it = Node(**table)
     if not isinstance(it.name, str) or not re.fullmatch(r"[A-Za-z0-9_-]{1,64}", it.name):
-        raise Wrong(f"{where}: the name {it.name!r} isn't of letters, digits, - and _ alone")
+        raise Wrong(f"{where}: name is {it.name!r}; it must be 1 to 64 letters, digits, - and _")
     if it.start not in ("first", "again"):
-        raise Wrong(f"{where}: start is {it.start!r}, and should be \"first\" or \"again\"")
+        raise Wrong(f"{where}: start is {it.start!r}; it must be \"first\" or \"again\"")
     if not isinstance(it.commands, list) or not all(isinstance(one, str) for one in it.commands):
-        raise Wrong(f"{where}: commands isn't a list of lines")
+        raise Wrong(f"{where}: commands isn't a list of texts; write a line of a script in each")
     return it
 
 
@@ -140,17 +140,17 @@ def link_of(place: int, table: Any, wishes: dict[str, Any], nodes: dict[str, Nod
     """A link of the description."""
     where = f"link {place + 1}"
     if not isinstance(table, dict):
-        raise Wrong(f"{where}: it isn't a table [[link]]")
+        raise Wrong(f"{where}: it isn't a table; write [[link]]")
     checked(where, table, LINK, {"ends"})
     missing = {"ends", "delay"} - set(table)
     if missing:
-        raise Wrong(f"{where}: {' and '.join(sorted(missing))} is missing")
+        raise Wrong(f"{where}: {' and '.join(sorted(missing))} {'is' if len(missing) == 1 else 'are'} missing")
     ends = table["ends"]
     if not isinstance(ends, list) or len(ends) != 2 or ends[0] == ends[1]:
-        raise Wrong(f"{where}: ends isn't a list of two nodes")
+        raise Wrong(f"{where}: ends is {ends!r}; it must be a list of the names of two nodes")
     for name in ends:
         if name not in nodes:
-            raise Wrong(f"{where}: there is no node {name!r}")
+            raise Wrong(f"{where}: unknown node: {name!r}; the nodes are {', '.join(nodes)}")
     drift = table.get("drift", wishes.get("drift", 100))
     return Link(place, (ends[0], ends[1]), table["delay"], drift, table.get("mtu", 1500), table.get("pace", 0), table.get("queue", 8))
 
@@ -160,29 +160,29 @@ def network_of(text: bytes) -> Network:
     try:
         top = tomllib.loads(text.decode())
     except (UnicodeDecodeError, tomllib.TOMLDecodeError) as why:
-        raise Wrong(str(why)) from why
+        raise Wrong(f"it isn't valid TOML: {why}") from why
     unknown = set(top) - {"network", "node", "link"}
     if unknown:
-        raise Wrong(f"`{sorted(unknown)[0]}` is no part of a description; it has [network], [[node]] and [[link]]")
+        raise Wrong(f"unknown table: {sorted(unknown)[0]}; the tables are [network], [[node]] and [[link]]")
     if not all(isinstance(top.get(part, []), list) for part in ("node", "link")) or not isinstance(top.get("network", {}), dict):
-        raise Wrong("it has one table [network], and lists [[node]] and [[link]]")
+        raise Wrong("a table has the wrong form; write one [network], and [[node]] and [[link]] for each node and link")
     wishes = checked("network", top.get("network", {}), NETWORK, set())
     nodes: dict[str, Node] = {}
     for place, table in enumerate(top.get("node", [])):
         it = node_of(place, table)
         twice = next((one for one in nodes.values() if one.name == it.name or one.number == it.number), None)
         if twice:
-            raise Wrong(f"node {place + 1}: {it.name!r}, number {it.number}, is there already as {twice.name!r}, number {twice.number}")
+            raise Wrong(f"node {place + 1}: {it.name!r}, number {it.number}, has the name or number of {twice.name!r}, number {twice.number}; give it its own")
         nodes[it.name] = it
     links = [link_of(place, table, wishes, nodes) for place, table in enumerate(top.get("link", []))]
     if not nodes or not links:
-        raise Wrong("a network has nodes and links")
+        raise Wrong("there is no node or no link; a network needs both")
     if len(links) > MOST_LINKS:
-        raise Wrong(f"there are {len(links)} links, and a schedule has numbers for {MOST_LINKS}")
+        raise Wrong(f"there are {len(links)} links; at most {MOST_LINKS} fit into a schedule")
     for name in nodes:
         others = [it.other(name) for it in links if name in it.ends]
         if len(set(others)) < len(others):
-            raise Wrong(f"node {name!r} has two links to one node: what comes would count as of the first")
+            raise Wrong(f"node {name!r} has two links to one node; packets would count as those of the first, so leave one out")
     return Network(wishes, nodes, links)
 
 
@@ -192,14 +192,14 @@ def resolve(nodes: dict[str, Node]) -> None:
     for it in nodes.values():
         host, colon, port = str(it.address).rpartition(":")
         if not colon or scripts.number(port, 65_535, 1) is None:
-            raise Wrong(f"node {it.name!r}: the address {it.address!r} isn't HOST:PORT")
+            raise Wrong(f"node {it.name!r}: address is {it.address!r}; it must be HOST:PORT")
         try:
             found = socket.getaddrinfo(host, int(port), socket.AF_INET, socket.SOCK_DGRAM)
         except (OSError, UnicodeError) as why:
-            raise Wrong(f"node {it.name!r}: {host!r} isn't found: {why}") from why
+            raise Wrong(f"node {it.name!r}: host {host!r} isn't found: {why}") from why
         it.place = scripts.Address(found[0][4][0], int(port))
         if it.place in seen:
-            raise Wrong(f"node {it.name!r}: {it.place} is the address of {seen[it.place]!r} too")
+            raise Wrong(f"node {it.name!r}: {it.place} is the address of node {seen[it.place]!r} too; give each node its own")
         seen[it.place] = it.name
 
 
@@ -238,7 +238,7 @@ def plan_of(network: Network) -> Plan:
     routes = {name: ways(network, name) for name in network.nodes}
     lost = [(one, other) for one in routes for other in network.nodes if other != one and other not in routes[one]]
     if lost:
-        raise Wrong(f"there is no way from {lost[0][0]!r} to {lost[0][1]!r}")
+        raise Wrong(f"no links lead from node {lost[0][0]!r} to node {lost[0][1]!r}; add a link")
     paths = [way for each in routes.values() for way in each.values()]
     longest = max(sum(link.delay for link in way) for way in paths)
     wishes = network.wishes
@@ -312,7 +312,7 @@ def files_of(network: Network) -> dict[str, str]:
             made[node.name] = scripts.parse(name, files[name].encode())
         except scripts.Refused as why:
             line = files[name].split("\n")[why.line - 1]
-            raise Wrong(f"node {node.name!r}: the line `{line}` is refused: {why.fault}") from why
+            raise Wrong(f"node {node.name!r}: the line `{line}` is refused: {why.fault}; docs/formats.md explains the fault") from why
     files["network.schedule"] = schedule_of(plan, made)
     return files
 
@@ -334,7 +334,7 @@ def main() -> int:
         for name, text in files.items():
             (Path(asked.out) / name).write_text(text)
     except OSError as why:
-        print(f"fleet.py: {why.filename}: {why.strerror}", file=sys.stderr)
+        print(f"fleet.py: {why.filename}: {why.strerror}; give a description, and a folder that can be written", file=sys.stderr)
         return 2
     except Wrong as why:
         print(f"{asked.network}: {why}", file=sys.stderr)

@@ -1,12 +1,12 @@
 #!/usr/bin/env python3
-"""A `params` line for a network, the charge of its links, and what follows from them.
+"""Computes a `params` line for a network, the charge of its links, and what follows from them.
 
     tools/params.py DELAY ROUND-TRIP [--hops N] [--drift PPM] [--tries N] [--mtu N] [--room N] [--wait MS] [--shelf N]
 
-DELAY is the longest that a packet may be under way on one link, in ms, with all queues of the network;
-ROUND-TRIP is a usual round trip from end to end, in ms. All nodes of a network get the same line.
+DELAY is the longest time that a packet may be under way on one link, in ms, with all queues of the network. ROUND-TRIP
+is a usual round trip from end to end, in ms. All nodes of a network get the same line.
 
-Ends with 0, or with 2 where there are no such parameters."""
+Ends with 0, or with 2 if no parameters suit."""
 import argparse
 import sys
 

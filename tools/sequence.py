@@ -41,9 +41,9 @@ def log_of(schedule: str, program: str) -> str:
     try:
         ran = subprocess.run([program, "replay"], input=schedule.encode(), capture_output=True, check=False)
     except OSError as fault:
-        raise Refused(f"the program can't be run: {fault}") from None
+        raise Refused(f"{program} can't be run: {fault}; build it (./build), or give its log too") from None
     if ran.returncode not in (0, 3) or not ran.stdout:
-        raise Refused(f"no log of this schedule: {ran.stderr.decode().strip()} (status {ran.returncode})")
+        raise Refused(f"{program} replay failed with status {ran.returncode}: {ran.stderr.decode().strip()}")
     return ran.stdout.decode()
 
 
@@ -54,7 +54,7 @@ def texts_of(paths: list[str], program: str) -> list[dict[str, str]]:
         try:
             texts.append({"name": pathlib.Path(path).name, "text": pathlib.Path(path).read_text(encoding="utf-8")})
         except (OSError, UnicodeDecodeError) as fault:
-            raise Refused(f"{path}: {fault}") from None
+            raise Refused(f"{path} can't be read: {fault}; give a schedule or logs") from None
     if len(texts) == 1 and is_schedule(texts[0]["text"]):
         texts.append({"name": "its log", "text": log_of(texts[0]["text"], program)})
     return texts
@@ -65,7 +65,7 @@ def page_of(texts: list[dict[str, str]]) -> str:
     page = (HERE / "sequence.html").read_text(encoding="utf-8")
     data = json.dumps(texts).replace("<", "\\u003c")
     if page.count(PLACE) != 1:
-        raise Refused("sequence.html has no place for a run")
+        raise Refused("sequence.html has no place for a run; take the file of this version")
     return page.replace(PLACE, PLACE.replace("[]", data))
 
 
@@ -78,7 +78,7 @@ def headless(path: str, *options: str) -> subprocess.CompletedProcess[str]:
     """Opens a page of this machine in a Chromium without a window, and has it do what the options say."""
     program = browser()
     if not program:
-        raise Refused("no Chromium is there (Debian: chromium)")
+        raise Refused("Chromium isn't installed, and --svg needs it; install it (Debian: chromium)")
     with tempfile.TemporaryDirectory() as profile:
         command = [program, "--headless", "--no-sandbox", "--disable-gpu", "--hide-scrollbars", f"--user-data-dir={profile}",
                    *options, pathlib.Path(path).absolute().as_uri()]
@@ -94,11 +94,11 @@ def picture_of(page: str) -> str:
     found = re.search(r'<svg xmlns=.*?</svg>', drawn, re.DOTALL)
     if not found:
         told = re.search(r'<p id="fault"[^>]*>([^<]+)<', drawn)
-        raise Refused(told.group(1) if told else "the browser drew nothing")
+        raise Refused(told.group(1) if told else f"{browser()} drew nothing; try without --svg")
     try:
         xml.dom.minidom.parseString(found.group().encode())
     except ExpatError as fault:
-        raise Refused(f"the browser's picture is no XML: {fault}") from None
+        raise Refused(f"the picture of {browser()} isn't valid XML: {fault}") from None
     return found.group() + "\n"
 
 

@@ -22,7 +22,7 @@ class Flow(NamedTuple):
         """The flow that a word of a line spells. ValueError where it spells none."""
         ends = [int(it) for end in word.split(">") for it in end.split(":")]
         if len(ends) != 4:
-            raise ValueError(f"no flow: {word}")
+            raise ValueError(f"{word!r} isn't a flow; write NODE:PORT>NODE:PORT")
         return cls(*ends)
 
     def back(self) -> "Flow":

@@ -21,7 +21,6 @@ from accounts import ACCOUNTS, Bank, NamedBank, Notes, SyncedBank
 
 sys.path.insert(0, str(pathlib.Path(__file__).resolve().parents[2] / "bindings" / "python"))
 import deltat  # noqa: E402
-import deltat_service as service  # noqa: E402
 
 PORT = 4_700
 # whether the ends are on this machine, with a relay between them (demo.py), or in two namespaces (tests/wan.py)
@@ -35,7 +34,7 @@ BANK, CLIENTS = 100, 20
 PARAMS = deltat.Params(mpl=252, r=450, a=5, rto=90, probe=180, seg=1442, cap=65536, rcap=65536, window=65536)
 CHARGE = 244
 # a request that was sent at once and its answer are over after 2 (r + mpl) and the bank's time
-PATIENCE = 2.0
+TIMEOUT = 2.0
 DRAIN_MS = 15_000
 
 
@@ -43,13 +42,13 @@ def bank_udp(folder: pathlib.Path) -> deltat.Udp:
     """The bank's node: each client is a link of its own."""
     links = [deltat.Link(it, CHARGE) for it in range(1, CLIENTS + 1)]
     routes = {it: it for it in range(1, CLIENTS + 1)}
-    node = service.Service(BANK, None, PARAMS, links, routes, state=deltat.State(folder / "bank", BANK, PARAMS))
-    node.port(20, service.Kind.SERVICE)
+    node = deltat.Service(BANK, None, PARAMS, links, routes, state=deltat.State(folder / "bank", BANK, PARAMS))
+    node.set_port(20, deltat.PortKind.SERVICE)
     peers = {it: (CLIENT_HOST, PORT + it + (TO_CLIENT if IS_RELAYED else 0)) for it in routes}
     return deltat.Udp(node, (BANK_HOST, PORT), peers, routes)
 
 
-def client_udp(node: service.Service) -> deltat.Udp:
+def client_udp(node: deltat.Service) -> deltat.Udp:
     """A client's socket, whose only peer is the bank."""
     return deltat.Udp(node, (CLIENT_HOST, PORT + node.number), {BANK: (BANK_HOST, PORT + (TO_BANK + node.number if IS_RELAYED else 0))})
 
@@ -57,7 +56,7 @@ def client_udp(node: service.Service) -> deltat.Udp:
 def serve(folder: pathlib.Path) -> None:
     bank = Bank(folder / "journal")
     with bank_udp(folder) as udp:
-        calls = service.Calls(udp)
+        calls = deltat.Calls(udp)
         for request in calls.requests():
             calls.reply(request.token, bank.handle(request.payload))
 
@@ -92,16 +91,16 @@ class CallingClient(Client):
 
     def run(self) -> None:
         state = deltat.State(self.folder, self.number, PARAMS)
-        node = service.Service(self.number, None, PARAMS, [deltat.Link(1, CHARGE)], {BANK: 1}, state=state)
-        node.port(10, service.Kind.CALLER)
+        node = deltat.Service(self.number, None, PARAMS, [deltat.Link(1, CHARGE)], {BANK: 1}, state=state)
+        node.set_port(10, deltat.PortKind.CALLER)
         with client_udp(node) as self.udp:
-            self.calls = service.Calls(self.udp)
+            self.calls = deltat.Calls(self.udp)
             while not self.is_over():
                 for order in self.notes.open_orders():
                     self.look(order)
                 if self.is_early():
                     self.give(self.order())
-                    self.udp.settle(self.think())
+                    self.udp.run_for(self.think())
             if self.number == 1 and (told := self.asked(b"sum")):
                 self.notes.note(f"sum {told}")
 
@@ -109,11 +108,11 @@ class CallingClient(Client):
         """What was answered, or None: it is unsure. Where it is declined it waits, and tries again."""
         while True:
             try:
-                return self.calls.call(deltat.Flow(self.number, 10, BANK, 20), payload, PATIENCE).decode()
-            except service.Unsure:
+                return self.calls.call(deltat.Flow(self.number, 10, BANK, 20), payload, TIMEOUT).decode()
+            except deltat.Unsure:
                 return None
-            except service.Declined as why:
-                self.udp.settle(max(why.until - deltat.now(), 50) / 1000)
+            except deltat.Declined as why:
+                self.udp.run_for(max(why.until - deltat.now(), 50) / 1000)
 
     def give(self, order: str) -> None:
         fate = self.asked(f"transfer {order} {self.notes.orders[order]}".encode())
@@ -171,7 +170,7 @@ class TcpClient(Client):
         self.is_unsure = False
         try:
             if self.stream is None:
-                self.stream = socket.create_connection((BANK_HOST, PORT), PATIENCE)
+                self.stream = socket.create_connection((BANK_HOST, PORT), TIMEOUT)
             self.is_unsure = True
             self.stream.sendall(request)
             answer = b""
@@ -197,7 +196,8 @@ def main() -> None:
         asyncio.run(serve_tcp(OVER_TCP[word](pathlib.Path(folder, "journal"))))
     else:
         number, until, seed = map(int, words)
-        (CallingClient if word == "ask" else TcpClient)(pathlib.Path(folder), number, until, seed).run()
+        kind: type[CallingClient | TcpClient] = CallingClient if word == "ask" else TcpClient
+        kind(pathlib.Path(folder), number, until, seed).run()
 
 
 if __name__ == "__main__":

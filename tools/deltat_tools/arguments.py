@@ -9,7 +9,7 @@ def number(least: float, most: float, kind: type = float) -> Callable[[str], flo
     def read(word: str) -> float:
         value = kind(word)
         if not least <= value <= most:
-            raise argparse.ArgumentTypeError(f"{word} isn't from {least:.0f} to {most:.0f}")
+            raise argparse.ArgumentTypeError(f"it is {word}; it must be from {least:.0f} to {most:.0f}")
         return value
 
     read.__name__ = "number"

@@ -28,7 +28,7 @@ class End(NamedTuple):
 def end(word: str) -> End:
     found = re.fullmatch(r"(\d{1,10})@(?:([^@:]+):)?(\d{1,5})", word)
     if not found or int(found[1]) >= 2**32 or not 0 < int(found[3]) < 2**16:
-        raise argparse.ArgumentTypeError(f"{word!r} isn't NODE@HOST:PORT")
+        raise argparse.ArgumentTypeError(f"{word!r} isn't valid; write NODE@HOST:PORT, or NODE@PORT on 127.0.0.1")
     return End(int(found[1]), found[2] or "127.0.0.1", int(found[3]))
 
 
@@ -46,20 +46,14 @@ def add_words(it: argparse.ArgumentParser) -> None:
 
 
 def library() -> ModuleType:
-    """The library's module: of the system, or of the clone that this is in. Ends with 2 where there is none."""
+    """Returns the library's package: of the system, or of the clone that this is in. Ends with 2 if there is none."""
     sys.path.append(str(pathlib.Path(__file__).resolve().parents[2] / "bindings" / "python"))
     try:
         import deltat
     except (ImportError, OSError) as why:
-        print(f"{pathlib.Path(sys.argv[0]).name}: the library isn't there ({why}): make -C lib", file=sys.stderr)
+        print(f"{pathlib.Path(sys.argv[0]).name}: the library can't be used ({why})", file=sys.stderr)
         sys.exit(2)
     return deltat
-
-
-def recorded(path: str, *given: object, state: object) -> object:
-    """A node that keeps its run. OSError where nothing can be written there."""
-    import deltat_record
-    return deltat_record.Recorded(path, *given, state=state)
 
 
 class Live:
@@ -78,7 +72,7 @@ class Live:
         self.state = self.deltat.State(folder, asked.own.node, self.params, again=asked.again, changed=True)
         try:
             given = asked.own.node, self.params, links, {asked.peer.node: 1}
-            node = recorded(asked.record, *given, state=self.state) if asked.record else self.deltat.Node(*given, state=self.state)
+            node = self.deltat.Recorded(asked.record, *given, state=self.state) if asked.record else self.deltat.Node(*given, state=self.state)
             self.udp = self.deltat.Udp(node, (asked.own.host, asked.own.port), {asked.peer.node: (asked.peer.host, asked.peer.port)})
         except BaseException:
             self.state.close()
@@ -87,7 +81,7 @@ class Live:
             print(f"{pathlib.Path(sys.argv[0]).name}: node {asked.own.node} is silent for {self.state.silence() / 1000:.1f} s, since it ran before ({folder})",
                   file=sys.stderr)
         self.flow = self.deltat.Flow(asked.own.node, asked.ports[0], asked.peer.node, asked.ports[1])
-        self.taken = self.settled = self.uncertain = self.resent = 0
+        self.queued = self.acknowledged = self.uncertain = self.resent = 0
 
     @property
     def give(self) -> float:
@@ -97,17 +91,17 @@ class Live:
     @property
     def is_settled(self) -> bool:
         """Whether all that was sent is acknowledged or reported."""
-        return self.settled + self.uncertain == self.taken
+        return self.acknowledged + self.uncertain == self.queued
 
     def listen(self) -> None:
-        """Counts what the node told of the flow."""
-        kind = self.deltat.Kind
+        """Counts the reports of the flow."""
+        kind = self.deltat.ReportKind
         for it in self.udp.node.reports():
             if it.flow == self.flow:
-                self.taken += it.count * (it.kind is kind.TOOK)
-                self.settled += it.count * (it.kind is kind.SETTLED)
+                self.queued += it.count * (it.kind is kind.SEND_QUEUED)
+                self.acknowledged += it.count * (it.kind is kind.ACKNOWLEDGED)
                 self.uncertain += it.count * (it.kind is kind.UNCERTAIN)
-                self.resent += it.kind is kind.RESENT
+                self.resent += it.kind is kind.SEGMENT_RESENT
 
 
 @contextlib.contextmanager

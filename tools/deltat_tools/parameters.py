@@ -153,7 +153,7 @@ def suited(paths: Sequence[Sequence[Hop]], wishes: Wishes) -> Params:
     r = rto * wishes.tries
     seg = min(MOST_SEGMENT, wishes.mtu - HEADERS, wishes.room)
     if seg < 1:
-        raise Unsuited(f"an MTU of {wishes.mtu} octets has no room for an octet behind {HEADERS} of headers")
+        raise Unsuited(f"the MTU is {wishes.mtu} octets; it must be more than {HEADERS}, which headers take")
     mpl = 2
     while mpl <= DAY:
         params = Params(mpl, r, a, rto, 1, seg, wishes.room, wishes.room, wishes.room, 2**31)
@@ -163,10 +163,10 @@ def suited(paths: Sequence[Sequence[Hop]], wishes: Wishes) -> Params:
             chosen = Params(mpl, r, a, rto, probe, seg, wishes.room, wishes.room, wishes.room, 2**31)
             wrong = chosen.out_of_range()
             if wrong:
-                raise Unsuited(f"{wrong[0]} would be {wrong[1]}, which is out of its range")
+                raise Unsuited(f"{wrong[0]} would be {wrong[1]}, which is out of range; docs/formats.md has the ranges")
             return chosen
         mpl = most
-    raise Unsuited("the life of a packet would be longer than a day")
+    raise Unsuited("a packet would live for more than a day; delays must be shorter, or hops fewer")
 
 
 def link_charge(hop: Hop, params: Params) -> int:

@@ -4,17 +4,16 @@
         node = deltat.Node(1, params, links, routes, state=state)
 
 A node that starts must be silent until nothing of its earlier lives is under way any more: for the quiet time
-`3 mpl + r + a` after the last datagram that left it or was handed to it. A new life needs a number that no earlier
-life had. Nobody but the program can keep both in mind, and a program that is killed keeps nothing. So the folder has
+`3 mpl + r + a` after the last datagram that left it or was passed in. A new life needs a number that no earlier life
+had. Only the program can keep both, and a program that is killed keeps nothing in memory. So the folder has
 
 - a lock: one node number is one node at a time;
 - the number, the parameters, and the count of lives, which are on the disk before the first datagram leaves;
-- the boot of the machine, and a moment after which no datagram has left and none was handed in.
+- the boot of the machine, and a time after which no datagram has left and none was passed in.
 
-That moment is written ahead of time, so a program that is killed at any instruction leaves one that is late enough.
+That time is written ahead of time, so a program that is killed at any instruction leaves one that is late enough.
 docs/formats.md has the form of the files; the tools and `tools/run-node` keep the same ones. This module is tested
-(`tests/state.py`), and not proved. Programs reach it as `deltat.State`, `deltat.StateError`, `deltat.fresh_number` and
-`deltat.usual_folder`."""
+(`tests/state.py`), and not proved."""
 
 from __future__ import annotations
 
@@ -29,17 +28,16 @@ import zlib
 from dataclasses import astuple, dataclass
 from pathlib import Path
 
-import deltat
-from deltat import BadParameter, DeltatError, Params
-
-__all__ = ["State", "StateError", "fresh_number", "usual_folder"]
+from . import clock
+from ._c import Start
+from .errors import InvalidArgument, StateError
+from .values import PARAMETERS, Params, in_range
 
 _LOG = logging.getLogger("deltat")
 _STATE = re.compile(
     rb"deltat state 1\nnode (\d{1,10})\nparams (\d{1,10}(?: \d{1,10}){10})\nlife (\d{1,10})\n(?=check )"
 )
 _LAST = re.compile(rb"deltat last 1\nboot ([0-9a-f-]{36})\nclock ([+-]\d{19})\nuntil (\d{20})\n(?=check )")
-_NUMBERS = "mpl r a rto probe seg cap rcap window run_limit start".split()
 _NO_BOOT = "00000000-0000-0000-0000-000000000000"
 _OURS = {"lock", "state", "state.new", "state.damaged", "last"}
 _MOST_LIFE = (1 << 32) - 1
@@ -49,20 +47,15 @@ _LEAST_AHEAD = 50
 _FIRST_FRESH = 65_536
 
 
-class StateError(DeltatError):
-    """A state folder can't be used: it is another process's, another node's or of other parameters, it was closed, or
-    it can't be written. No datagram left, and none was handed in."""
-
-
 def fresh_number() -> int:
-    """A node number that nobody had, but by chance: drawn from 65,536 to 4,294,967,295. A node of such a number needs
-    no state folder and no silence. Where n numbers of that range are in use, or were within the last quiet time, it is
-    one of these by a chance of n in 4,294,901,760; docs/premises.md has a table."""
+    """Returns a node number that nobody has, except by chance: drawn from 65,536 to 4,294,967,295. A node of such a
+    number needs no state folder and no silence. If n numbers of that range are in use, or were within the last quiet
+    time, it is one of these with a probability of n in 4,294,901,760; docs/premises.md has a table."""
     return _FIRST_FRESH + secrets.randbelow((1 << 32) - _FIRST_FRESH)
 
 
 def usual_folder(program: str, node: int) -> Path:
-    """A place for the state folder of a node that a user starts: $XDG_STATE_HOME/PROGRAM/NODE, or
+    """Returns a place for the state folder of a node that a user starts: $XDG_STATE_HOME/PROGRAM/NODE, or
     ~/.local/state/PROGRAM/NODE. A service has one below /var/lib."""
     home = Path(os.environ.get("XDG_STATE_HOME") or "")
     return (home if home.is_absolute() else Path.home() / ".local" / "state") / program / str(node)
@@ -95,7 +88,7 @@ def _clock() -> int | None:
 
 
 def _time() -> tuple[str, int]:
-    """By which boot and clock this process reads the time. (No boot, if either can't be known.)"""
+    """Returns by which boot and clock this process reads the time. (No boot, if either can't be known.)"""
     clock = _clock()
     return (_NO_BOOT, 0) if clock is None else (_boot(), clock)
 
@@ -110,7 +103,7 @@ def _checked(text: str) -> bytes:
 
 
 def _groups(form: re.Pattern[bytes], octets: bytes) -> list[str] | None:
-    """The words of a file of this form, or None where it has another form or is damaged."""
+    """Returns the words of a file of this form. None: it has another form, or is damaged."""
     found = form.match(octets)
     if not found or octets != _checked(octets[: found.end()].decode()):
         return None
@@ -118,7 +111,7 @@ def _groups(form: re.Pattern[bytes], octets: bytes) -> list[str] | None:
 
 
 def _read(name: str, folder: int) -> bytes | None:
-    """The first 4,096 octets of a file, more than any of ours has; None where there is none."""
+    """Returns the first 4,096 octets of a file, more than any of ours has. None: there is none."""
     try:
         file = os.open(name, os.O_RDONLY | os.O_CLOEXEC | os.O_NONBLOCK, dir_fd=folder)
     except FileNotFoundError:
@@ -143,7 +136,7 @@ def _replace(name: str, octets: bytes, folder: int) -> None:
 
 
 def _made(path: Path) -> int:
-    """The folder, opened. Where it isn't there it is made, and each name of its path is on the disk then."""
+    """Opens the folder. If it doesn't exist it is made, and each name of its path is on the disk then."""
     missing = [it for it in (path, *path.parents) if not it.exists()]
     for it in reversed(missing):
         it.mkdir(0o700, exist_ok=True)
@@ -185,33 +178,33 @@ def _close(files: list[int]) -> None:
 class State:
     """The state folder of a node, locked for one opening of it.
 
-    `again`: whether the node may have had an earlier life; `life`: the number of this one, which no earlier one had;
-    `why`: in words, what the answer rests on. They are on the disk when the constructor returns.
+    `start`: `Start.AGAIN` if the node may have had an earlier life, else `Start.FIRST`; `life`: the number of this
+    life, which no earlier one had; `why`: in words, what the answer rests on. They are on the disk when the constructor
+    returns.
 
     A state is for one opening of one node, which closes it when it is closed itself. It costs two syncs of the disk at
-    its making, and a short write without one each quarter of the quiet time while datagrams leave or arrive."""
+    the start, and a short write without one each quarter of the quiet time while datagrams leave or arrive."""
 
     def __init__(
-        self, folder: str | os.PathLike[str], node: int, params: Params, again: bool = False, changed: bool = False,
+        self, folder: str | os.PathLike[str], node: int, params: Params, again: bool = False, changed: bool = False
     ) -> None:
         """Opens the folder, or makes it, and takes its lock.
 
-        `again`: be silent for the whole quiet time, whatever the folder says, and draw a life by chance. Set it after a
+        `again`: be silent for the whole quiet time, whatever the folder says, and draw a life at random. Set it after a
         machine was set back to a snapshot, or the folder to a copy. `changed`: the parameters of the network were
         changed, with all nodes stopped. If the silence by the old ones is longer, the constructor waits for the rest.
 
-        StateError: another process has the folder, and its id is in the text; or the folder is of another node, or of
-        other parameters and `changed` isn't set. BadParameter: a number is out of its range. OSError: the folder can't
-        be read or written. The node must not be opened then.
+        Raises StateError if another process has the folder (its id is in the text), or the folder is of another node,
+        or of other parameters and `changed` isn't set; InvalidArgument if a number is out of range; OSError if the
+        folder can't be read or written. The node must not be opened then.
 
-        A file that is damaged or of another program is kept as `state.damaged`, a warning is logged by the logger
-        `deltat`, and the start is silent for the whole quiet time."""
-        if not 0 <= node < 1 << 32:
-            raise BadParameter(f"the node is {node}; it must be from 0 to 4294967295")
-        params.fingerprint  # BadParameter where one is out of its range
+        A file that is damaged or of another program is kept as `state.damaged`, the logger `deltat` has a warning, and
+        the node is silent for the whole quiet time."""
+        in_range(node, 32, "node")
+        params.fingerprint  # InvalidArgument where one is out of its range
         self.folder, self.node, self.params = Path(os.path.abspath(folder)), node, params
         self._pid, self._time = os.getpid(), _time()
-        self._ahead = max(params.quiet // 4, _LEAST_AHEAD)
+        self._ahead = max(params.quiet_ms // 4, _LEAST_AHEAD)
         self._kept = _Kept(node, tuple(astuple(params)), 0)
         self._files: list[int] = []
         self._finalizer = weakref.finalize(self, _close, self._files)
@@ -248,29 +241,29 @@ class State:
             self._put_aside(octets)
         elif known:
             self._warn("the file state is gone")
-        self.again = kept is not None or known
+        self.start = Start.AGAIN if kept is not None or known else Start.FIRST
         self._files.append(os.open("last", os.O_RDWR | os.O_CREAT | os.O_CLOEXEC, 0o600, dir_fd=self._directory))
-        self.why = self._look_back(kept, again) if self.again else "the folder is new"
+        self.why = self._look_back(kept, again) if self.start is Start.AGAIN else "the folder is new"
         if kept:
             # (0, but where the parameters were changed)
-            time.sleep(max(kept.quiet - self.params.quiet, 0) / 1000)
+            time.sleep(max(kept.quiet - self.params.quiet_ms, 0) / 1000)
         if self._ended is None:
             # what isn't believed now must not be believed by the next start, if this one is killed
             os.ftruncate(self._files[2], 0)
         self._count(self._life_before(kept, again))
 
     def _life_before(self, kept: _Kept | None, again: bool) -> int:
-        """The last life, or one that is drawn where the count can't be believed."""
+        """Returns the last life, or one that is drawn if the count can't be believed."""
         if kept and not again:
             return kept.life
-        return _DRAWN_FROM + secrets.randbelow(_DRAWN_FROM // 2) if self.again else 0
+        return _DRAWN_FROM + secrets.randbelow(_DRAWN_FROM // 2) if self.start is Start.AGAIN else 0
 
     @property
     def _directory(self) -> int:
         return self._files[0]
 
     def _lock(self) -> bool:
-        """Takes the lock. Whether something in the folder is of an earlier life."""
+        """Takes the lock. Returns whether something in the folder is of an earlier life."""
         names = set(os.listdir(self._directory))
         lock = os.open("lock", os.O_RDWR | os.O_CREAT | os.O_CLOEXEC, 0o600, dir_fd=self._directory)
         self._files.append(lock)
@@ -291,20 +284,21 @@ class State:
             self._refuse_node(kept.node)
         if kept.numbers == self._kept.numbers or changed:
             return
-        name, old, new = next(it for it in zip(_NUMBERS, kept.numbers, self._kept.numbers) if it[1] != it[2])
+        name, old, new = next(it for it in zip(PARAMETERS, kept.numbers, self._kept.numbers) if it[1] != it[2])
         raise StateError(
             f"{self.folder}: {name} was {old} and is {new}; a node is silent by its parameters, and all nodes have the "
-            f"same: stop all of them, wait {max(kept.quiet, self.params.quiet)} ms, and open this one with changed=True"
+            f"same; stop all of them, wait {max(kept.quiet, self.params.quiet_ms)} ms, and open this one with "
+            "changed=True"
         )
 
     def _refuse_node(self, kept: int) -> None:
         raise StateError(
-            f"{self.folder} is of node {kept}, and this is node {self.node}; each node counts its own lives and has its "
-            "own silence: give it a folder of its own"
+            f"{self.folder} is of node {kept}, and this is node {self.node}; each node counts its own lives and has "
+            "its own silence: give it a folder of its own"
         )
 
     def _put_aside(self, octets: bytes) -> None:
-        """Keeps a file that can't be read, where an operator finds it."""
+        """Keeps a file that can't be read, for an operator to find."""
         found = re.search(rb"^node (\d{1,10})$", octets, re.MULTILINE)
         if found and int(found[1]) != self.node:
             self._refuse_node(int(found[1]))
@@ -312,10 +306,11 @@ class State:
         self._warn("state can't be read, and is kept as state.damaged")
 
     def _warn(self, what: str) -> None:
-        _LOG.warning("%s: %s; the node is silent for its whole quiet time, %d ms", self.folder, what, self.params.quiet)
+        quiet = self.params.quiet_ms
+        _LOG.warning("%s: %s; the node is silent for its whole quiet time, %d ms", self.folder, what, quiet)
 
     def _look_back(self, kept: _Kept | None, again: bool) -> str:
-        """Finds out where the last life ended, and says what is known of it."""
+        """Finds out when the last life ended, and returns what is known of it."""
         if again:
             return "the whole silence was asked for"
         if not kept:
@@ -348,24 +343,25 @@ class State:
         return self._kept.life
 
     def next_life(self) -> int:
-        """Counts one more life, as for `raise_life` of a service. It is on the disk when this returns. StateError;
-        OSError, and then the life must not be used."""
+        """Counts one more life, as for `set_life` of a service. It is on the disk when this returns. Raises StateError,
+        or OSError, and then the life must not be used."""
         self._test()
         self._count(self._kept.life)
         return self._kept.life
 
     def check(self, node: int, params: Params) -> None:
-        """StateError where the state is of another node or of other parameters, or was closed."""
+        """Raises StateError if the state is of another node or of other parameters, or was closed."""
         self._test()
         if node != self.node or params != self.params:
             raise StateError(
-                f"{self.folder}: node {node} was given the state of node {self.node}, or other parameters than those of "
-                "its state; make a state for it"
+                f"{self.folder}: node {node} was given the state of node {self.node}, or other parameters than those "
+                "of its state; make a state for it"
             )
 
     def opens_at(self, now: int) -> int:
-        """The moment to open the node at, in ms of `deltat.now()` and at most `now`. It is the end of the last life, if
-        that is known, so that the node is silent for what is left of its quiet time. StateError at a second call."""
+        """Returns the time to open the node at, in ms of `deltat.now()` and at most `now`. It is the end of the last
+        life, if that is known, so that the node is silent for the rest of its quiet time. Raises StateError at a second
+        call."""
         self._test()
         if self._opened_at is not None:
             raise StateError(f"{self.folder}: one state is for one opening of a node; close it and make another")
@@ -373,18 +369,18 @@ class State:
         if self._ended is None:
             # so a start that is killed in its silence doesn't have the next one begin it anew
             self._promise(now)
-        self._quiet_until = self._opened_at + self.params.quiet if self.again else 0
+        self._quiet_until = self._opened_at + self.params.quiet_ms if self.start is Start.AGAIN else 0
         return self._opened_at
 
     def silence(self, now: int | None = None) -> int:
-        """For how many ms from `now` on (left out, `deltat.now()`) the node that was opened is silent."""
-        at = deltat.now() if now is None else now
+        """Returns for how many ms from `now` on (left out, `deltat.now()`) the node that was opened is silent."""
+        at = clock.now() if now is None else now
         return max(self._quiet_until - at, 0)
 
     def note_packet(self, now: int) -> None:
-        """Notes that at this moment a datagram may leave the node, or is handed to it. Call it before each input of the
-        node, but for a tick at which nothing is due. StateError: the input must not be given to the node.
-        Cost: three comparisons, and each quarter of the quiet time a write of 125 octets."""
+        """Notes that at this time a datagram may leave the node, or is passed in. Call it before each input of the
+        node, except a tick at which nothing is due. Raises StateError: the input must not be passed to the node. Cost:
+        three comparisons, and each quarter of the quiet time a write of 125 octets."""
         if now < self._quiet_until:
             return
         if now > self._until:
@@ -419,7 +415,7 @@ class State:
     # --- the end
 
     def close(self) -> None:
-        """Writes down when the last datagram left or was handed in, and frees the lock. Close the node first: a node
+        """Writes down when the last datagram left or was passed in, and frees the lock. Close the node first: a node
         whose state is closed sends nothing. Called again it does nothing."""
         if self._unusable:
             return

@@ -5,6 +5,7 @@ from __future__ import annotations
 
 import ctypes
 import enum
+from typing import Any, TypeVar
 
 DELTAT_VERSION = "0.1.1"
 DELTAT_VERSION_MAJOR = 0
@@ -402,63 +403,20 @@ class Network(ctypes.Structure):
     ]
 
 
-def sized(struct: type[ctypes.Structure]) -> ctypes.Structure:
-    """A struct of this type, all 0 but its size."""
-    it = struct()
-    it.size = ctypes.sizeof(struct)
-    return it
-
-
 # Each function: its result, and its arguments.
-FUNCTIONS: dict[str, tuple[object, list[object]]] = {
-    "dt_abi_version": (
-        ctypes.c_uint32,
-        [],
-    ),
-    "dt_node_size": (
-        ctypes.c_size_t,
-        [],
-    ),
-    "dt_node_align": (
-        ctypes.c_size_t,
-        [],
-    ),
-    "dt_node_init": (
-        None,
-        [ctypes.c_void_p],
-    ),
-    "dt_node_new": (
-        ctypes.c_void_p,
-        [],
-    ),
-    "dt_node_free": (
-        None,
-        [ctypes.c_void_p],
-    ),
-    "dt_node_open": (
-        OpenResult,
-        [ctypes.c_void_p, ctypes.POINTER(Params), ctypes.POINTER(NodeOptions)],
-    ),
-    "dt_node_close": (
-        None,
-        [ctypes.c_void_p],
-    ),
-    "dt_node_add_route": (
-        ctypes.c_uint8,
-        [ctypes.c_void_p, ctypes.POINTER(Route)],
-    ),
-    "dt_params_quiet_ms": (
-        ctypes.c_uint64,
-        [ctypes.POINTER(Params)],
-    ),
-    "dt_params_fingerprint": (
-        ctypes.c_uint8,
-        [ctypes.POINTER(Params), ctypes.POINTER(ctypes.c_uint64)],
-    ),
-    "dt_node_tick": (
-        ctypes.c_uint8,
-        [ctypes.c_void_p, ctypes.c_uint64],
-    ),
+FUNCTIONS: dict[str, tuple[Any, list[Any]]] = {
+    "dt_abi_version": (ctypes.c_uint32, []),
+    "dt_node_size": (ctypes.c_size_t, []),
+    "dt_node_align": (ctypes.c_size_t, []),
+    "dt_node_init": (None, [ctypes.c_void_p]),
+    "dt_node_new": (ctypes.c_void_p, []),
+    "dt_node_free": (None, [ctypes.c_void_p]),
+    "dt_node_open": (OpenResult, [ctypes.c_void_p, ctypes.POINTER(Params), ctypes.POINTER(NodeOptions)]),
+    "dt_node_close": (None, [ctypes.c_void_p]),
+    "dt_node_add_route": (ctypes.c_uint8, [ctypes.c_void_p, ctypes.POINTER(Route)]),
+    "dt_params_quiet_ms": (ctypes.c_uint64, [ctypes.POINTER(Params)]),
+    "dt_params_fingerprint": (ctypes.c_uint8, [ctypes.POINTER(Params), ctypes.POINTER(ctypes.c_uint64)]),
+    "dt_node_tick": (ctypes.c_uint8, [ctypes.c_void_p, ctypes.c_uint64]),
     "dt_node_receive": (
         ReceiveResult,
         [
@@ -484,76 +442,57 @@ FUNCTIONS: dict[str, tuple[object, list[object]]] = {
     ),
     "dt_node_read": (
         ReadResult,
-        [ctypes.c_void_p, ctypes.c_uint64, ctypes.POINTER(Flow), ctypes.c_void_p, ctypes.c_size_t],
+        [
+            ctypes.c_void_p,
+            ctypes.c_uint64,
+            ctypes.POINTER(Flow),
+            ctypes.c_void_p,
+            ctypes.c_size_t,
+        ],
     ),
     "dt_node_next_datagram": (
         ctypes.c_uint8,
-        [ctypes.c_void_p, ctypes.c_void_p, ctypes.c_size_t, ctypes.POINTER(Datagram)],
+        [
+            ctypes.c_void_p,
+            ctypes.c_void_p,
+            ctypes.c_size_t,
+            ctypes.POINTER(Datagram),
+        ],
     ),
-    "dt_node_next_report": (
-        ctypes.c_uint8,
-        [ctypes.c_void_p, ctypes.POINTER(Report)],
-    ),
-    "dt_node_wake": (
-        ctypes.c_uint64,
-        [ctypes.c_void_p],
-    ),
-    "dt_node_enable_messages": (
-        ctypes.c_uint8,
-        [ctypes.c_void_p, ctypes.c_size_t],
-    ),
-    "dt_node_mark_readable": (
-        ctypes.c_uint8,
-        [ctypes.c_void_p, ctypes.POINTER(Flow)],
-    ),
+    "dt_node_next_report": (ctypes.c_uint8, [ctypes.c_void_p, ctypes.POINTER(Report)]),
+    "dt_node_wake": (ctypes.c_uint64, [ctypes.c_void_p]),
+    "dt_node_enable_messages": (ctypes.c_uint8, [ctypes.c_void_p, ctypes.c_size_t]),
+    "dt_node_mark_readable": (ctypes.c_uint8, [ctypes.c_void_p, ctypes.POINTER(Flow)]),
     "dt_node_next_message": (
         ctypes.c_uint8,
-        [ctypes.c_void_p, ctypes.c_uint64, ctypes.c_void_p, ctypes.c_size_t, ctypes.POINTER(Message)],
+        [
+            ctypes.c_void_p,
+            ctypes.c_uint64,
+            ctypes.c_void_p,
+            ctypes.c_size_t,
+            ctypes.POINTER(Message),
+        ],
     ),
     "dt_node_set_guard": (
         ctypes.c_uint8,
-        [ctypes.c_void_p, ctypes.POINTER(ctypes.c_uint16), ctypes.c_size_t, ctypes.c_bool, ctypes.c_uint32],
+        [
+            ctypes.c_void_p,
+            ctypes.POINTER(ctypes.c_uint16),
+            ctypes.c_size_t,
+            ctypes.c_bool,
+            ctypes.c_uint32,
+        ],
     ),
-    "dt_node_get_blocked_counts": (
-        BlockedCounts,
-        [ctypes.c_void_p],
-    ),
-    "dt_node_get_counts": (
-        ctypes.c_uint8,
-        [ctypes.c_void_p, ctypes.POINTER(NodeCounts)],
-    ),
-    "dt_node_count_flow": (
-        ctypes.c_uint8,
-        [ctypes.c_void_p, ctypes.POINTER(Flow)],
-    ),
-    "dt_node_get_flow_counts": (
-        ctypes.c_uint8,
-        [ctypes.c_void_p, ctypes.POINTER(Flow), ctypes.POINTER(FlowCounts)],
-    ),
-    "dt_service_size": (
-        ctypes.c_size_t,
-        [],
-    ),
-    "dt_service_align": (
-        ctypes.c_size_t,
-        [],
-    ),
-    "dt_service_init": (
-        None,
-        [ctypes.c_void_p],
-    ),
-    "dt_service_new": (
-        ctypes.c_void_p,
-        [],
-    ),
-    "dt_service_free": (
-        None,
-        [ctypes.c_void_p],
-    ),
-    "dt_service_close": (
-        None,
-        [ctypes.c_void_p],
-    ),
+    "dt_node_get_blocked_counts": (BlockedCounts, [ctypes.c_void_p]),
+    "dt_node_get_counts": (ctypes.c_uint8, [ctypes.c_void_p, ctypes.POINTER(NodeCounts)]),
+    "dt_node_count_flow": (ctypes.c_uint8, [ctypes.c_void_p, ctypes.POINTER(Flow)]),
+    "dt_node_get_flow_counts": (ctypes.c_uint8, [ctypes.c_void_p, ctypes.POINTER(Flow), ctypes.POINTER(FlowCounts)]),
+    "dt_service_size": (ctypes.c_size_t, []),
+    "dt_service_align": (ctypes.c_size_t, []),
+    "dt_service_init": (None, [ctypes.c_void_p]),
+    "dt_service_new": (ctypes.c_void_p, []),
+    "dt_service_free": (None, [ctypes.c_void_p]),
+    "dt_service_close": (None, [ctypes.c_void_p]),
     "dt_service_open": (
         OpenResult,
         [
@@ -563,10 +502,7 @@ FUNCTIONS: dict[str, tuple[object, list[object]]] = {
             ctypes.POINTER(ServiceOptions),
         ],
     ),
-    "dt_service_set_port": (
-        ctypes.c_uint8,
-        [ctypes.c_void_p, ctypes.c_uint16, ctypes.c_uint8],
-    ),
+    "dt_service_set_port": (ctypes.c_uint8, [ctypes.c_void_p, ctypes.c_uint16, ctypes.c_uint8]),
     "dt_service_call": (
         CallResult,
         [
@@ -580,32 +516,28 @@ FUNCTIONS: dict[str, tuple[object, list[object]]] = {
     ),
     "dt_service_reply": (
         ReplyResult,
-        [ctypes.c_void_p, ctypes.c_uint64, ctypes.POINTER(Token), ctypes.c_void_p, ctypes.c_size_t],
+        [
+            ctypes.c_void_p,
+            ctypes.c_uint64,
+            ctypes.POINTER(Token),
+            ctypes.c_void_p,
+            ctypes.c_size_t,
+        ],
     ),
-    "dt_service_forget": (
-        ctypes.c_uint8,
-        [ctypes.c_void_p, ctypes.c_uint64, ctypes.POINTER(Token)],
-    ),
+    "dt_service_forget": (ctypes.c_uint8, [ctypes.c_void_p, ctypes.c_uint64, ctypes.POINTER(Token)]),
     "dt_service_next_event": (
         ctypes.c_uint8,
-        [ctypes.c_void_p, ctypes.c_void_p, ctypes.c_size_t, ctypes.POINTER(Event)],
+        [
+            ctypes.c_void_p,
+            ctypes.c_void_p,
+            ctypes.c_size_t,
+            ctypes.POINTER(Event),
+        ],
     ),
-    "dt_service_set_life": (
-        ctypes.c_uint8,
-        [ctypes.c_void_p, ctypes.c_uint32],
-    ),
-    "dt_service_get_call_counts": (
-        ctypes.c_uint8,
-        [ctypes.c_void_p, ctypes.POINTER(CallCounts)],
-    ),
-    "dt_service_stop": (
-        ctypes.c_uint8,
-        [ctypes.c_void_p],
-    ),
-    "dt_service_tick": (
-        ctypes.c_uint8,
-        [ctypes.c_void_p, ctypes.c_uint64],
-    ),
+    "dt_service_set_life": (ctypes.c_uint8, [ctypes.c_void_p, ctypes.c_uint32]),
+    "dt_service_get_call_counts": (ctypes.c_uint8, [ctypes.c_void_p, ctypes.POINTER(CallCounts)]),
+    "dt_service_stop": (ctypes.c_uint8, [ctypes.c_void_p]),
+    "dt_service_tick": (ctypes.c_uint8, [ctypes.c_void_p, ctypes.c_uint64]),
     "dt_service_receive": (
         ReceiveResult,
         [
@@ -619,64 +551,75 @@ FUNCTIONS: dict[str, tuple[object, list[object]]] = {
     ),
     "dt_service_next_datagram": (
         ctypes.c_uint8,
-        [ctypes.c_void_p, ctypes.c_void_p, ctypes.c_size_t, ctypes.POINTER(Datagram)],
+        [
+            ctypes.c_void_p,
+            ctypes.c_void_p,
+            ctypes.c_size_t,
+            ctypes.POINTER(Datagram),
+        ],
     ),
-    "dt_service_wake": (
-        ctypes.c_uint64,
-        [ctypes.c_void_p],
-    ),
-    "dt_service_add_route": (
-        ctypes.c_uint8,
-        [ctypes.c_void_p, ctypes.POINTER(Route)],
-    ),
+    "dt_service_wake": (ctypes.c_uint64, [ctypes.c_void_p]),
+    "dt_service_add_route": (ctypes.c_uint8, [ctypes.c_void_p, ctypes.POINTER(Route)]),
     "dt_service_set_guard": (
         ctypes.c_uint8,
-        [ctypes.c_void_p, ctypes.POINTER(ctypes.c_uint16), ctypes.c_size_t, ctypes.c_bool, ctypes.c_uint32],
+        [
+            ctypes.c_void_p,
+            ctypes.POINTER(ctypes.c_uint16),
+            ctypes.c_size_t,
+            ctypes.c_bool,
+            ctypes.c_uint32,
+        ],
     ),
-    "dt_service_get_blocked_counts": (
-        BlockedCounts,
-        [ctypes.c_void_p],
-    ),
-    "dt_service_get_counts": (
-        ctypes.c_uint8,
-        [ctypes.c_void_p, ctypes.POINTER(NodeCounts)],
-    ),
-    "dt_version": (
-        ctypes.c_char_p,
-        [],
-    ),
-    "dt_status_name": (
-        ctypes.c_char_p,
-        [ctypes.c_uint8],
-    ),
-    "dt_fault_name": (
-        ctypes.c_char_p,
-        [ctypes.c_uint8],
-    ),
-    "dt_report_name": (
-        ctypes.c_char_p,
-        [ctypes.c_uint8],
-    ),
+    "dt_service_get_blocked_counts": (BlockedCounts, [ctypes.c_void_p]),
+    "dt_service_get_counts": (ctypes.c_uint8, [ctypes.c_void_p, ctypes.POINTER(NodeCounts)]),
+    "dt_version": (ctypes.c_char_p, []),
+    "dt_status_name": (ctypes.c_char_p, [ctypes.c_uint8]),
+    "dt_fault_name": (ctypes.c_char_p, [ctypes.c_uint8]),
+    "dt_report_name": (ctypes.c_char_p, [ctypes.c_uint8]),
     "dt_report_line": (
         ctypes.c_size_t,
-        [ctypes.POINTER(Report), ctypes.c_uint64, ctypes.c_uint32, ctypes.c_void_p, ctypes.c_size_t],
+        [
+            ctypes.POINTER(Report),
+            ctypes.c_uint64,
+            ctypes.c_uint32,
+            ctypes.c_void_p,
+            ctypes.c_size_t,
+        ],
     ),
     "dt_params_for": (
         ctypes.c_uint8,
-        [ctypes.POINTER(Network), ctypes.POINTER(Params), ctypes.POINTER(ctypes.c_uint32)],
+        [
+            ctypes.POINTER(Network),
+            ctypes.POINTER(Params),
+            ctypes.POINTER(ctypes.c_uint32),
+        ],
     ),
 }
 
+Struct = TypeVar("Struct", bound=ctypes.Structure)
 
-def load(path: str) -> ctypes.CDLL:
-    """Loads the library. Raises OSError if there is none, and ImportError if it has another interface."""
-    library = ctypes.CDLL(path)
-    # (interface 1 had it by another name)
-    version = getattr(library, "dt_abi_version", None)
-    found = version() if version is not None else 1
+
+def sized(struct: type[Struct]) -> Struct:
+    """A struct of this type, all 0 but its size."""
+    it = struct()
+    it.size = ctypes.sizeof(struct)
+    return it
+
+
+def load(path: str) -> ctypes.PyDLL:
+    """Loads the library. A call of it takes some microseconds and never blocks, so it keeps the interpreter's lock: no
+    other thread calls the same handle meanwhile, and none forks the process. Raises OSError if the library can't be
+    loaded, and ImportError if it has another interface."""
+    library = ctypes.PyDLL(path)
+    # (interface 1 has the function by another name)
+    version = getattr(library, "dt_abi_version", None) or getattr(library, "dt_abi", None)
+    if version is None:
+        raise ImportError(f"{path} isn't libdeltat: it has no dt_abi_version")
+    found = version()
     if found != ABI_VERSION:
         raise ImportError(
-            f"{path} has interface {found}, this module is for {ABI_VERSION}; install both from one release"
+            f"{path} has interface {found}, and this package needs {ABI_VERSION}; install library and package of one "
+            "release"
         )
     for name, (result, arguments) in FUNCTIONS.items():
         function = getattr(library, name)

@@ -1,29 +1,34 @@
-"""A node that keeps what it took in, so that its run can be run again.
+"""A node that keeps what was passed in, so that its run can be repeated.
 
-    node = deltat_record.Recorded("run.txt", 2, params, links, routes, again=True)
+    node = deltat.Recorded("run.txt", 2, params, links, routes, start=deltat.Start.AGAIN)
     ...
     node.close()
 
-After that `deltat retrace < run.txt` writes what run.txt.log has: every report of the node, as the library told it.
-What a run did on one machine can so be seen on another one, line by line, and with other eyes.
+After that `deltat retrace < run.txt` writes what run.txt.log has: every report of the node, in the log's words. So a
+run on one machine can be looked at on another one, line by line.
 
-A script of a node does its commands in the first turn of their moment. So of a node that records a send or a read
-begins a new millisecond, unless it follows another one: it waits for that, and takes up to 1 ms longer. Moments are
-those since the node was opened. What is kept lies in memory until the node is closed; `retrace` reads 16,777,216 octets
-at most, and what came after about as many isn't kept."""
+A script of a node does its commands in the first turn of their time. So a send or a read of a node that records begins
+a new millisecond, unless it follows another one: it waits for that, and takes up to 1 ms longer. Times count from the
+opening of the node. What is kept is in memory until the node is closed; `retrace` reads at most 16,777,216 octets, and
+what follows about as many isn't kept."""
 
 from __future__ import annotations
 
 import contextlib
 import pathlib
 import time
-from collections.abc import Callable, Iterator, Mapping, Sequence
+from collections.abc import Iterator, Mapping, Sequence
 from dataclasses import dataclass
+from typing import TYPE_CHECKING
 
-import deltat
-from deltat import Flow, Kind, Link, Message, OutFrame, Params, Piece, Report, Status
+from . import clock
+from ._c import ReportKind, Start, Status
+from .errors import DeltatError, Full, InvalidArgument, Quiet
+from .node import MAX_SEND, Node
+from .values import Datagram, Flow, Link, Message, Params, Piece, Report
 
-__all__ = ["Recorded"]
+if TYPE_CHECKING:
+    from .state import State
 
 MOST = 16_777_216
 """So many octets of a script and a trace are read, and no more."""
@@ -35,7 +40,7 @@ def _letters(all_: str, *marks: bool) -> str:
 
 
 def _fault(octets: bytes) -> str:
-    """Why octets are no Deltagram (docs/formats.md)."""
+    """Returns why octets are no Deltagram, in the words of a log (docs/formats.md)."""
     if len(octets) < 16:
         return f"short {len(octets)}"
     told, there = int.from_bytes(octets[2:4], "big"), len(octets) - 16
@@ -44,38 +49,6 @@ def _fault(octets: bytes) -> str:
     if told != there or there > (1038 if octets[0] == 1 else 8206):
         return f"length {told} {there}"
     return "dead"
-
-
-_FAULTS = ("", "short", "version", "length", "dead", "protocol", "kind", "flags", "window", "size")
-
-# what stands behind the moment and the node, of each kind but PUT, which may have `unsent` behind it
-_WORDS: dict[Kind, Callable[[Report], str]] = {
-    Kind.TOOK: lambda it: f"took {it.flow} {it.count}",
-    Kind.TOLD_QUIET: lambda it: f"refused {it.flow} quiet {it.moment}",
-    Kind.TOLD_FULL: lambda it: f"refused {it.flow} full {it.count}",
-    Kind.SENT: lambda it: f"sent {it.flow} {it.number} {it.count} {_letters('dbe', it.run, it.begin, it.end)}",
-    Kind.RESENT: lambda it: f"resent {it.flow} {it.number} {it.count} {_letters('dbe', it.run, it.begin, it.end)}",
-    Kind.MET: lambda it: f"met {it.flow} {it.number}",
-    Kind.UNCERTAIN: lambda it: f"uncertain {it.flow} {it.count}",
-    Kind.RELEASED: lambda it: f"released {it.flow} {'send' if it.sending else 'receive'}",
-    Kind.RENEWED: lambda it: f"renewed {it.flow}",
-    Kind.ACKED: lambda it: f"acked {it.flow} {it.number} {it.window}",
-    Kind.REPLIED: lambda it: f"replied {it.flow} {it.number} {it.window}",
-    Kind.ACCEPTED: lambda it: f"accepted {it.flow} {it.number} {it.count} {'run' if it.run else 'on'}",
-    Kind.DROPPED: lambda it: f"dropped {it.flow} {it.number}",
-    Kind.CLOSING: lambda it: f"closing {it.flow} {it.number}",
-    Kind.SETTLED: lambda it: f"settled {it.flow} {it.count} {it.window}",
-    Kind.IGNORED: lambda it: f"ignored {it.flow} {it.number} {it.window}",
-    Kind.MET_QUIET: lambda it: f"quiet {it.moment}",
-    Kind.WAS_READ: lambda it: f"read {it.flow} {_letters('rbe', it.run, it.begin, it.end)} ",
-    Kind.NOT_READ: lambda it: f"nothing {it.flow}",
-    Kind.PUT: lambda it: f"put {it.number} {it.count}",
-    Kind.EXPIRED_IN: lambda it: f"expired in {it.number}",
-    Kind.EXPIRED_OUT: lambda it: f"expired out {it.number}",
-    Kind.NO_ROUTE: lambda it: f"noroute {it.number}",
-    Kind.LINK_FULL: lambda it: f"full {it.number}",
-    Kind.UNREADABLE: lambda it: f"bad {_FAULTS[it.number]} {it.count}",
-}
 
 
 @dataclass
@@ -121,30 +94,32 @@ class _Run:
         return "".join(f"{it}\n" for it in lines), "".join(f"{it}\n" for it in [*self.log, f"end {stop}"])
 
 
-class Recorded(deltat.Node):
-    """A node that keeps a script and a trace of its run, which `close` writes to `path`, and the log to `path`.log.
-    The numbers of its links are at most 255."""
+class Recorded(Node):
+    """A node that keeps a script and a trace of its run, which `close` writes to `path`, and the log to `path`.log. The
+    numbers of its links are at most 255."""
 
-    _TELL_OF_FLOWS = (Kind.ACCEPTED,)
+    _MARKS_READABLE = (ReportKind.ACCEPTED,)
 
     def __init__(
         self,
         path: str | pathlib.Path,
-        number: int,
+        node: int,
         params: Params,
         links: Sequence[Link],
         routes: Mapping[int, int],
         *,
-        again: bool | None = None,
-        state: deltat.State | None = None,
+        start: Start | None = None,
+        state: State | None = None,
         at: int | None = None,
     ) -> None:
-        """Opens the node, as a `Node`. TypeError, BadParameter, NoMemory or StateError; OSError if nothing can be written
-        there. Moments count from the start that a state knows, if there is one."""
+        """Opens the node, as a `Node`. Raises TypeError, InvalidArgument, OutOfMemory or StateError; OSError if the
+        file can't be written. Times count from the start that a state has, if there is one."""
         strange = [it.number for it in links if it.number > 255]
         if strange:
-            raise deltat.BadParameter(f"a link of a node that records is {strange[0]}, which is above 255")
-        self._path, self._base = pathlib.Path(path), deltat.now() if at is None else at
+            raise InvalidArgument(
+                f"link is {strange[0]}; it must be at most 255 at a node that records", "link", strange[0]
+            )
+        self._path, self._base = pathlib.Path(path), clock.now() if at is None else at
         self._path.write_text("")
         self._run = _Run([], ["@ 0"], [], [], [])
         # the run up to where the record was full, and the moment of its stop
@@ -152,20 +127,20 @@ class Recorded(deltat.Node):
         self._turn, self._event_at, self._handed, self._is_closed = _Turn(0, True), 0, 0, False
         self._begun: dict[Flow, bytearray] = {}
         self._gaps: set[Flow] = set()
-        super().__init__(number, params, links, routes, again=again, state=state, at=0)
-        self._setup = self._setup_of(number, params, links, routes, self._is_again)
+        super().__init__(node, params, links, routes, start=start, state=state, at=0)
+        self._setup = self._setup_of(node, params, links, routes, self.start)
         self._left = MOST - sum(len(it) + 1 for it in self._setup)
 
     def _begun_at(self, at: int | None) -> int:
         self._base = super()._begun_at(self._base)
         return 0
 
-    def _note(self, state: deltat.State, moment: int) -> None:
-        super()._note(state, moment + self._base)
+    def _note(self, state: State, time: int) -> None:
+        super()._note(state, time + self._base)
 
     @staticmethod
     def _setup_of(
-        number: int, params: Params, links: Sequence[Link], routes: Mapping[int, int], again: bool
+        node: int, params: Params, links: Sequence[Link], routes: Mapping[int, int], start: Start
     ) -> list[str]:
         """The setup of the script. Its addresses stand for those that its sockets had: nothing is sent there."""
         it = params
@@ -173,17 +148,17 @@ class Recorded(deltat.Node):
             f"params {it.mpl} {it.r} {it.a} {it.rto} {it.probe} {it.seg} {it.cap} {it.rcap} {it.window} {it.run_limit} "
             f"{it.start}"
         ]
-        lines += [f"me {number} {'again' if again else 'first'}", "local 127.0.0.1:1"]
+        lines += [f"me {node} {start.name.lower()}", "local 127.0.0.1:1"]
         first = {link.number: link for link in reversed(links)}
         lines += [
             f"peer {link.number} 127.0.0.1:1 {link.charge} {link.pace}" for link in links if first[link.number] is link
         ]
-        return lines + [f"route {to} {link}" for to, link in routes.items() if link in first and to != number] + ["go"]
+        return lines + [f"route {to} {link}" for to, link in routes.items() if link in first and to != node] + ["go"]
 
     # --- turns
 
     def _moment(self, at: int | None) -> int:
-        return max((deltat.now() if at is None else at) - self._base, self._turn.moment)
+        return max((clock.now() if at is None else at) - self._base, self._turn.moment)
 
     def _end_turn(self) -> None:
         """A turn ends with a tick."""
@@ -232,18 +207,18 @@ class Recorded(deltat.Node):
         if is_due:
             self._end_turn()
 
-    def arrive(self, link: int, datagram: bytes, waited: int = 0, at: int | None = None) -> Status:
+    def receive(self, link: int, datagram: bytes, waited_ms: int = 0, at: int | None = None) -> Status:
         octets, moment = bytes(datagram), self._moment(at)
         self._end_turn()
         self._fill()
         self._event_at = moment
-        status = super().arrive(link, octets, waited, moment)
-        if status is Status.BAD:
+        status = super().receive(link, octets, waited_ms, moment)
+        if status is Status.MALFORMED:
             self._begin_turn(moment, f"< {link} {octets[:8223].hex()}".rstrip())
             self._run.log.append(f"{moment} {self.number} bad {_fault(octets[:8223])}")
-        elif status is Status.DONE:
-            life = int.from_bytes(octets[4:8], "big") - waited
-            self._begin_turn(moment, f"< {link} {(octets[:4] + life.to_bytes(4, 'big') + octets[8:]).hex()}")
+        elif status is Status.OK:
+            lifetime = int.from_bytes(octets[4:8], "big") - waited_ms
+            self._begin_turn(moment, f"< {link} {(octets[:4] + lifetime.to_bytes(4, 'big') + octets[8:]).hex()}")
         return status
 
     def send(self, flow: Flow, octets: bytes, begin: bool = True, end: bool = True, at: int | None = None) -> None:
@@ -251,10 +226,10 @@ class Recorded(deltat.Node):
         line = f"at {moment} send {flow} {_letters('be', begin, end)} {bytes(octets).hex()}"
         try:
             super().send(flow, octets, begin, end, moment)
-        except (deltat.Full, deltat.Quiet) as why:
+        except (Full, Quiet) as why:
             self._keep(self._run.commands, line)
-            if isinstance(why, deltat.Quiet):
-                raise deltat.Quiet(why.until + self._base) from None
+            if isinstance(why, Quiet):
+                raise Quiet(why.until + self._base) from None
             raise
         self._keep(self._run.commands, line)
 
@@ -262,7 +237,7 @@ class Recorded(deltat.Node):
         moment, log = self._begin_command(at), self._run.log
         before = len(log)
         piece = super().read(flow, moment)
-        self._keep(self._run.commands, f"at {moment} read {flow} {deltat.MOST_SEND}")
+        self._keep(self._run.commands, f"at {moment} read {flow} {MAX_SEND}")
         if piece is not None:
             # the line of the read, which has no octets yet
             place = next(it for it in range(before, len(log)) if log[it].endswith(" "))
@@ -270,7 +245,8 @@ class Recorded(deltat.Node):
         return piece
 
     def messages(self, at: int | None = None) -> Iterator[Message]:
-        """As those of a `Node`, however long. They are read by pieces and joined here, since the log has each piece."""
+        """As those of a `Node`, of any length. They are read by pieces and joined here, since the log has each
+        piece."""
         while self._unread:
             flow = next(iter(self._unread))
             piece = self.read(flow, at)
@@ -283,11 +259,11 @@ class Recorded(deltat.Node):
         """The message that a piece makes whole. A begin mark begins anew, and behind a run mark what stood before is no
         part of any message."""
         begun = self._begun.pop(flow, None)
-        if piece.run:
+        if piece.gap:
             self._gaps.add(flow)
         if piece.begin:
             begun = bytearray()
-        elif piece.run or begun is None:
+        elif piece.gap or begun is None:
             return None
         begun += piece.octets
         if not piece.end:
@@ -302,19 +278,19 @@ class Recorded(deltat.Node):
         it = super().wake
         return None if it is None else it + self._base
 
-    def frames(self) -> Iterator[OutFrame]:
-        for frame in super().frames():
+    def datagrams(self) -> Iterator[Datagram]:
+        for it in super().datagrams():
             self._handed += 1
-            yield frame
+            yield it
 
-    def unsent(self) -> None:
+    def not_sent(self) -> None:
         self._run.failed.append(self._handed)
 
-    def _hear(self, told: Report) -> None:
-        super()._hear(told)
-        if told.kind is Kind.PUT:
+    def _keep_report(self, report: Report) -> None:
+        super()._keep_report(report)
+        if report.kind is ReportKind.PACKET_OUT:
             self._run.puts.append(len(self._run.log))
-        self._run.log.append(f"{self._event_at} {self.number} {_WORDS[told.kind](told)}")
+        self._run.log.append(report.line(self._event_at, self.number))
 
     # --- the end
 
@@ -323,7 +299,7 @@ class Recorded(deltat.Node):
         if self._is_closed or self._is_inherited:
             return
         self._is_closed = True
-        with contextlib.suppress(deltat.DeltatError):
+        with contextlib.suppress(DeltatError):
             self._end_turn()
         super().close()
         run, stop = self._kept or (self._run, self._turn.moment + 1)
