@@ -17,7 +17,6 @@ these fails, and with 77 where there is no library:
   while its messages aren't read, and who waits when it is closed is told.
 - services: a service of two ports answers 30 calls over such a link, each once; a call that nobody replies to is unsure;
   a service is told of a reply to a client that is away; 100 calls at once in a loop of asyncio are answered, and one that waits when it is closed is unsure.
-- users: the end of each call has the number that the program passed to it.
 - examples: examples/echo.py asks itself, and examples/echo.c, which is compiled first, at the ports that they name; and
   tools/dtcat.py asks examples/counter.py and examples/counter.c.
 
@@ -49,7 +48,6 @@ if not os.path.exists(os.environ["DELTAT_LIBRARY"]):
     skip(f"{os.environ['DELTAT_LIBRARY']} isn't there: make -C lib")
 sys.path[:0] = [str(TOP / "bindings" / "python"), str(TOP / "release")]
 import deltat  # noqa: E402
-import interface  # noqa: E402
 from deltat import record  # noqa: E402
 
 PARAMS = deltat.Params(mpl=1000, r=3000, a=200, rto=100, probe=800, seg=500, cap=65536, rcap=65536, window=65536)
@@ -577,27 +575,6 @@ def compiled(compiler: str, name: str, folder: str) -> str | None:
     return None if built.returncode else f"{folder}/{name}-{compiler}"
 
 
-def users() -> bool:
-    """Whether the end of each call has the number that the program passed."""
-    if any("dt_service_call" in it for it in interface.differences_of_exports()):
-        print("users: not tried, since crates/dt_c has dt_service_call without `user`")
-        return True
-    client, server = service_of(1, {10: deltat.PortKind.CALLER}), service_of(2, {20: deltat.PortKind.SERVICE})
-    flow, at = deltat.Flow(1, 10, 2, 20), deltat.now()
-    made = {client.call(flow, b"%d" % user, 1000, user, at): user for user in (7, 0, (1 << 64) - 1)}
-    made[client.call(flow._replace(target_port=21), b"nobody", 1000, 5, at)] = 5
-    right = refused(deltat.InvalidArgument, client.call, flow, b"x", 1000, 1 << 64, at)
-    for it in client.datagrams():
-        server.receive(1, it.octets, at=at)
-    for it in server.events():
-        server.reply(it.token, it.payload, at)
-    for it in server.datagrams():
-        client.receive(1, it.octets, at=at)
-    client.tick(at + 1000)
-    ends = {it.call: it.user for it in client.events()}
-    return right and ends == made
-
-
 def examples() -> bool:
     compilers = [it for it in ("gcc", "clang") if shutil.which(it)]
     right = asked([sys.executable, str(TOP / "examples" / "echo.py"), "serve"])
@@ -614,7 +591,7 @@ def examples() -> bool:
 
 def main() -> int:
     words = sys.argv[2:] if named else sys.argv[1:]
-    tests = {"refusals": refusals, "whole": whole, "simulated": simulated, "processes": processes, "asynchronous": asynchronous, "recorded": recorded, "services": services, "users": users, "examples": examples}
+    tests = {"refusals": refusals, "whole": whole, "simulated": simulated, "processes": processes, "asynchronous": asynchronous, "recorded": recorded, "services": services, "examples": examples}
     failed = 0
     for name in words or tests:
         begun = time.monotonic()

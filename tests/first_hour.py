@@ -375,7 +375,7 @@ def units() -> None:
     at = deltat.now()
     number = caller.call(CALL, b"x", timeout_ms=5, at=at)
     caller.tick(at + 6)
-    holds(list(caller.events()) == [deltat.UnsureCall(number, 0, deltat.Cause.TIMEOUT)], "5 ms aren't over")
+    holds(list(caller.events()) == [deltat.UnsureCall(number, deltat.Cause.TIMEOUT)], "5 ms aren't over")
     with deltat.Udp(caller, (HOST, own_port()), {2: (HOST, own_port())}) as udp:
         begun = time.monotonic()
         with raises(deltat.Unsure):

@@ -79,19 +79,16 @@ class Request(NamedTuple):
 
 
 class Answered(NamedTuple):
-    """The end of a call: its number, what was passed as `user`, and the answer."""
+    """The end of a call: its number and the answer."""
 
     call: int
-    user: int
     answer: bytes
 
 
 class UnsureCall(NamedTuple):
-    """The end of a call that was served once or not at all, or still will be: its number, what was passed as `user`,
-    and why it ended."""
+    """The end of a call that was served once or not at all, or still will be: its number, and why it ended."""
 
     call: int
-    user: int
     cause: Cause
 
 
@@ -179,17 +176,13 @@ class Service(AnyNode):
     def _read_ports(self) -> Sequence[int]:
         return list(self._kinds)
 
-    def call(
-        self, flow: Flow, payload: bytes, timeout_ms: int, user: int = 0, at: int | None = None
-    ) -> int:
-        """Makes a call that ends within `timeout_ms`, 1 to 4,294,967,295, and returns its number. Its end has `user`,
-        a number of 64 bits of yours. Raises Declined, InvalidArgument or Stopped, and then nothing was sent.
-        OutOfMemory: the node is stopped, and the call may have been made; if it was, `events` has its end."""
+    def call(self, flow: Flow, payload: bytes, timeout_ms: int, at: int | None = None) -> int:
+        """Makes a call that ends within `timeout_ms`, 1 to 4,294,967,295, and returns its number, which its end has
+        too. Raises Declined, InvalidArgument or Stopped, and then nothing was sent. OutOfMemory: the node is stopped, and the call may have been made; if it was, `events` has its end."""
         octets = octets_of(payload)
         in_range(timeout_ms, 32, "timeout_ms")
-        in_range(user, 64, "user")
         made = library.dt_service_call(
-            self._handle, self._noted(at), flow_to_c(flow), octets, len(octets), timeout_ms, user
+            self._handle, self._noted(at), flow_to_c(flow), octets, len(octets), timeout_ms
         )
         if made.status == Status.OK:
             return int(made.call)
@@ -241,12 +234,12 @@ class Service(AnyNode):
 
     def _taken(self, it: _c.Event) -> Event:
         if it.kind == EventKind.UNSURE:
-            return UnsureCall(it.call, it.user, Cause(it.cause))
+            return UnsureCall(it.call, Cause(it.cause))
         if it.kind == EventKind.REPLY_UNCERTAIN:
             return ReplyUncertain(flow_from_c(it.flow))
         octets = ctypes.string_at(self._room, it.len)
         if it.kind == EventKind.ANSWERED:
-            return Answered(it.call, it.user, octets)
+            return Answered(it.call, octets)
         return Request(Token(flow_from_c(it.flow), it.call), octets)
 
     def stop(self) -> None:
@@ -366,7 +359,7 @@ class _Desk:
         """Ends each call that waits as unsure, and wakes all who wait for requests."""
         while self.ends:
             number, end = self.ends.popitem()
-            end(UnsureCall(number, 0, Cause.STOPPED))
+            end(UnsureCall(number, Cause.STOPPED))
         for line in self.waiting:
             line.wake()
 
