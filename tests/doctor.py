@@ -88,13 +88,13 @@ DEFECTS: dict[str, tuple[list[list[str]], list[str], int]] = {
     ),
     "a life that is used up": (
         [FAR_ONE, with_line(FAR_TWO, 4, "peer 1 127.0.0.1:4003 948 0"), MIDDLE],
-        ["1:5: warning: 2 links to node 2 charge 998 ms, the stations 2 or more, and a packet lives 1000; give all nodes a greater mpl"],
+        ["1:5: warning: 2 links to node 2 charge 998 ms, the stations 2 or more, and mpl is 1000; give all nodes a greater mpl"],
         0,
     ),
     "a life that isn't": ([FAR_ONE, with_line(FAR_TWO, 4, "peer 1 127.0.0.1:4003 947 0"), MIDDLE], [], 0),
     "a shelf that life doesn't pay for": (
         [ONE, with_line(TWO, 4, "peer 1 127.0.0.1:4001 498 0\nshelf 1")],
-        ["1:5: warning: packets for node 2 have 501 ms of life left for its shelf, and a lost one before them goes again after 500; give all nodes an mpl that is greater by two rto"],
+        ["1:5: warning: packets for node 2 have 501 ms of lifetime left for its shelf, and a lost one before them is resent after 500; give all nodes an mpl that is greater by two rto"],
         0,
     ),
     "a shelf that it pays for": ([ONE, with_line(TWO, 4, "peer 1 127.0.0.1:4001 497 0\nshelf 1")], [], 0),
@@ -111,7 +111,7 @@ DEFECTS: dict[str, tuple[list[list[str]], list[str], int]] = {
     ),
     "a wide window": (
         [with_line(ONE, 1, changed(9, 5000)), TWO],
-        ["1:1: warning: window is 5000, and node 2 has room for 4096 octets (2:1); let window be at most the other's rcap"],
+        ["1:1: warning: window is 5000, and node 2 has room for 4096 octets (2:1); set window to at most the other's rcap"],
         0,
     ),
     "an address twice": (

@@ -30,7 +30,7 @@ from collections.abc import Iterator
 from lib import TOP, skip
 
 sys.dont_write_bytecode = True
-sys.path[:0] = [str(TOP / "release"), str(TOP / "bindings" / "python")]
+sys.path[:0] = [str(TOP / "release"), str(TOP / "bindings" / "python" / "deltat")]
 import interface  # noqa: E402
 
 SONAME = f"libdeltat.so.{next(it.value for it in interface.header().constants if it.name == 'DT_ABI_VERSION')}"
@@ -202,8 +202,7 @@ def installed(folder: pathlib.Path, libraries: pathlib.Path) -> Iterator[Case]:
 
 
 def cases(libraries: pathlib.Path) -> Iterator[Case]:
-    os.environ["DELTAT_LIBRARY"] = str(libraries / SONAME)
-    tables = importlib.import_module("deltat._c")
+    tables = importlib.import_module("_c")
     library = tables.load(str(libraries / SONAME))
     yield from copies()
     yield from layouts(tables)

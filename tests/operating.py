@@ -153,7 +153,7 @@ def shared(place: Place) -> tuple[str, bool, str]:
         with deltat.State(place.folder(30), 30, deltat.Params(*numbers)) as state:
             opened, now = state.opens_at(deltat.now()), deltat.now()
             lives.append(state.life)
-            hows.append(state.again)
+            hows.append(state.start is deltat.Start.AGAIN)
             state.note_packet(now + 1000)
             second = place.run(script(30, "first"), "echo", "started")
         hows.append(place.how(script(30, "first")))

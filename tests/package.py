@@ -224,7 +224,7 @@ def used(root: Path, room: Path) -> list[Case]:
     return [*cases, ("with the C library alone", (ran.returncode, ran.stdout) == (0, log), ran.stderr)]
 
 
-# two nodes of the package's Python module, and a message
+# two nodes of the Debian package's Python package, and a message
 ASKS = """import deltat
 params = deltat.Params(1000, 3000, 200, 100, 800, 500, 4096, 4096, 4096)
 one, two = (deltat.Node(it, params, [deltat.Link(1, 90)], {3 - it: 1}, start=deltat.Start.FIRST, at=0) for it in (1, 2))
@@ -241,7 +241,7 @@ def asks(root: Path) -> list[Case]:
         return [("the library", True, "it isn't made here")]
     library = str(root / f"usr/lib/{os.uname().machine}-linux-gnu/libdeltat.so.2")
     ran = run(sys.executable, "-c", ASKS, PYTHONPATH=str(root / "usr/lib/python3/dist-packages"), DELTAT_LIBRARY=library)
-    return [("the library's Python module", ran.stdout == "[b'hello']\n", ran.stderr)]
+    return [("the library's Python package", ran.stdout == "[b'hello']\n", ran.stderr)]
 
 
 def main() -> int:

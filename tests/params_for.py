@@ -22,8 +22,9 @@ from dataclasses import dataclass, replace
 
 from lib import TOP, skip
 
-sys.path[:0] = [str(TOP / "tools"), str(TOP / "bindings" / "python")]
-import _deltat_c as tables  # noqa: E402
+# (the tables without their package, which would load a library)
+sys.path[:0] = [str(TOP / "tools"), str(TOP / "bindings" / "python" / "deltat")]
+import _c as tables  # noqa: E402
 from deltat_tools import parameters as par  # noqa: E402
 
 OK, INVALID, NONE = 0, 3, 5

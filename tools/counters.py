@@ -9,6 +9,7 @@ standard output when the log ends. `--through` passes the log on to standard out
 Counters are by node and flow, by node and link, or by node. Memory is bounded: --flows flows and nodes each have their
 own counters, all others are counted together as "other", and a line that is longer than any of a node is skipped."""
 import argparse
+import errno
 import os
 import re
 import sys
@@ -311,7 +312,9 @@ def main() -> int:
     except KeyboardInterrupt:
         pass
     except (OSError, OverflowError) as fault:
-        print(f"counters.py: {fault}", file=sys.stderr)
+        is_in_use = isinstance(fault, OSError) and fault.errno == errno.EADDRINUSE
+        text = f"port {given.listen} is in use; stop the other program, or choose another port" if is_in_use else fault
+        print(f"counters.py: {text}", file=sys.stderr)
         return 1
     finally:
         ended.set()

@@ -1,6 +1,7 @@
 """Nodes that run while their tool does, over the library's Python module."""
 import argparse
 import contextlib
+import errno
 import pathlib
 import re
 import sys
@@ -106,12 +107,20 @@ class Live:
 
 @contextlib.contextmanager
 def opened(asked: argparse.Namespace) -> Iterator[Live]:
-    """The node that was asked for, closed after its use. OSError where its port can't be had, or its state folder not
-    written; ValueError where there are no parameters for such a link, or the state folder is another node's or in use."""
+    """The node that was asked for, closed after its use. Raises OSError if its socket can't be bound, or its state folder
+    can't be written; ValueError if its port is in use, no parameters suit such a link, or the state folder is in use or
+    of another node."""
     deltat = library()
     try:
         it = Live(asked, deltat)
+    except OSError as why:
+        if why.errno != errno.EADDRINUSE:
+            raise
+        raise ValueError(f"port {asked.own.port} is in use; stop the other program, or choose another port") from why
+    except (par.Unsuited, deltat.StateError) as why:
+        raise ValueError(str(why)) from why
+    try:
         with it.state, it.udp:
             yield it
-    except (par.Unsuited, deltat.StateError) as why:
+    except deltat.StateError as why:
         raise ValueError(str(why)) from why
