@@ -482,7 +482,8 @@ def python_function(it: Function) -> Iterator[str]:
     if len(line) <= 120:
         yield line
     else:
-        yield from [f'    "{it.name}": (', f"        {result},", "        [", *(f"            {one}," for one in arguments), "        ],", "    ),"]
+        yield from [f'    "{it.name}": (', f"        {result},", "        ["]
+        yield from [*(f"            {one}," for one in arguments), "        ],", "    ),"]
 
 
 PYTHON_HEAD = """from __future__ import annotations

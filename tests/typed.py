@@ -42,13 +42,15 @@ def main() -> int:
         skip("there is no mypy: apt-get install mypy")
     examples = sorted((TOP / "examples").rglob("*.py"))
     ran = checked(BINDINGS / "deltat", BINDINGS / "build_wheel.py", *examples)
-    cases = [(f"the package and {len(examples)} examples are clean", ran.returncode == 0, ran.stdout[-1000:] + ran.stderr[-500:])]
+    said = ran.stdout[-1000:] + ran.stderr[-500:]
+    cases = [(f"the package and {len(examples)} examples are clean", ran.returncode == 0, said)]
     with tempfile.TemporaryDirectory() as folder:
         for number, (what, mistake, error) in enumerate(MISTAKES):
             path = Path(folder) / f"mistake_{number}.py"
             path.write_text(f"{HEAD}{mistake}\n")
             ran = checked(path)
-            cases.append((f"{what} is refused", ran.returncode == 1 and error in ran.stdout, ran.stdout[-1000:]))
+            is_refused = ran.returncode == 1 and error in ran.stdout
+            cases.append((f"{what} is refused", is_refused, ran.stdout[-1000:]))
         path.write_text(HEAD)
         cases.append(("the same program without a mistake is clean", checked(path).returncode == 0, ""))
     for name, holds, text in cases:
