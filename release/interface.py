@@ -529,7 +529,8 @@ def load(path: str) -> ctypes.PyDLL:
 def python() -> str:
     """The tables of ctypes."""
     it = header()
-    lines = ['"""The interface of libdeltat for ctypes.', "", f'{MADE_BY.capitalize()}."""', *PYTHON_HEAD.splitlines(), ""]
+    lines = ['"""The interface of libdeltat for ctypes.', "", f'{MADE_BY.capitalize()}."""']
+    lines += [*PYTHON_HEAD.splitlines(), ""]
     for constant in it.constants:
         value = f'"{constant.value}"' if isinstance(constant.value, str) else f"{constant.value:_}"
         lines.append(f"{constant.name.removeprefix('DT_')} = {value}")

@@ -18,6 +18,9 @@ from lib import TOP, skip
 BINDINGS = TOP / "bindings" / "python"
 HEAD = """import deltat
 
+def ends_of(service: deltat.Service) -> list[deltat.Event]:
+    return list(service.events())
+
 params, charge = deltat.Params.for_network(deltat.Network(250_000, 50_000))
 node = deltat.Node(2, params, [deltat.Link(1, charge)], {1: 1}, start=deltat.Start.AGAIN)
 """
@@ -26,7 +29,7 @@ MISTAKES = [
     ("a truth for a start", "deltat.Node(2, params, [], {}, start=True)", 'has incompatible type "bool"'),
     ("a text for octets", 'node.send(deltat.Flow(2, 20, 1, 10), "text")', 'has incompatible type "str"'),
     ("a piece that may be None", "node.read(deltat.Flow(1, 10, 2, 20)).octets", '"None" of "Optional[Piece]"'),
-    ("an event that may be another", "[it.answer for it in deltat.Service(2, 1, params, [], {}).events()]", '"Request" of'),
+    ("an event that may be another", "lambda service: [it.answer for it in ends_of(service)]", '"Request" of'),
     ("a former name", "deltat.Spent", 'has no attribute "Spent"'),
 ]
 
