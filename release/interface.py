@@ -485,7 +485,8 @@ def python_function(it: Function) -> Iterator[str]:
     if len(line) <= 120:
         yield line
     else:
-        yield from [f'    "{it.name}": (', f"        {result},", "        [", *(f"            {one}," for one in arguments), "        ],", "    ),"]
+        yield from [f'    "{it.name}": (', f"        {result},", "        ["]
+        yield from [*(f"            {one}," for one in arguments), "        ],", "    ),"]
 
 
 PYTHON_HEAD = """from __future__ import annotations
@@ -531,7 +532,8 @@ def load(path: str) -> ctypes.PyDLL:
 def python() -> str:
     """The tables of ctypes."""
     it = header()
-    lines = ['"""The interface of libdeltat for ctypes.', "", f'{MADE_BY.capitalize()}."""', *PYTHON_HEAD.splitlines(), ""]
+    lines = ['"""The interface of libdeltat for ctypes.', "", f'{MADE_BY.capitalize()}."""']
+    lines += [*PYTHON_HEAD.splitlines(), ""]
     for constant in it.constants:
         value = f'"{constant.value}"' if isinstance(constant.value, str) else f"{constant.value:_}"
         lines.append(f"{constant.name.removeprefix('DT_')} = {value}")

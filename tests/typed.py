@@ -18,6 +18,9 @@ from lib import TOP, skip
 BINDINGS = TOP / "bindings" / "python"
 HEAD = """import deltat
 
+def ends_of(service: deltat.Service) -> list[deltat.Event]:
+    return list(service.events())
+
 params, charge = deltat.Params.for_network(deltat.Network(250_000, 50_000))
 node = deltat.Node(2, params, [deltat.Link(1, charge)], {1: 1}, start=deltat.Start.AGAIN)
 """
@@ -26,7 +29,7 @@ MISTAKES = [
     ("a truth for a start", "deltat.Node(2, params, [], {}, start=True)", 'has incompatible type "bool"'),
     ("a text for octets", 'node.send(deltat.Flow(2, 20, 1, 10), "text")', 'has incompatible type "str"'),
     ("a piece that may be None", "node.read(deltat.Flow(1, 10, 2, 20)).octets", '"None" of "Optional[Piece]"'),
-    ("an event that may be another", "[it.answer for it in deltat.Service(2, 1, params, [], {}).events()]", '"Request" of'),
+    ("an event that may be another", "lambda service: [it.answer for it in ends_of(service)]", '"Request" of'),
     ("a former name", "deltat.Spent", 'has no attribute "Spent"'),
 ]
 
@@ -42,13 +45,15 @@ def main() -> int:
         skip("there is no mypy: apt-get install mypy")
     examples = sorted((TOP / "examples").rglob("*.py"))
     ran = checked(BINDINGS / "deltat", BINDINGS / "build_wheel.py", *examples)
-    cases = [(f"the package and {len(examples)} examples are clean", ran.returncode == 0, ran.stdout[-1000:] + ran.stderr[-500:])]
+    said = ran.stdout[-1000:] + ran.stderr[-500:]
+    cases = [(f"the package and {len(examples)} examples are clean", ran.returncode == 0, said)]
     with tempfile.TemporaryDirectory() as folder:
         for number, (what, mistake, error) in enumerate(MISTAKES):
             path = Path(folder) / f"mistake_{number}.py"
             path.write_text(f"{HEAD}{mistake}\n")
             ran = checked(path)
-            cases.append((f"{what} is refused", ran.returncode == 1 and error in ran.stdout, ran.stdout[-1000:]))
+            is_refused = ran.returncode == 1 and error in ran.stdout
+            cases.append((f"{what} is refused", is_refused, ran.stdout[-1000:]))
         path.write_text(HEAD)
         cases.append(("the same program without a mistake is clean", checked(path).returncode == 0, ""))
     for name, holds, text in cases:

@@ -57,11 +57,13 @@ def made(folder: pathlib.Path, python: str) -> Iterator[Case]:
     wanted = f"deltat-{version}-py3-none-linux_{os.uname().machine}.whl"
     yield "its name has the version and the machine", [it.name for it in wheels] == [wanted] * 2, str(wheels)
     yield "both are the same", wheels[0].read_bytes() == wheels[1].read_bytes(), ""
-    ran = run(python, "-m", "pip", "wheel", "--no-index", "--no-deps", "-w", folder / "three", TOP / "bindings" / "python")
-    by_pip = folder / "three" / wanted
-    yield "pip makes the same of bindings/python", by_pip.exists() and by_pip.read_bytes() == wheels[0].read_bytes(), ran.stderr[-500:]
+    words = ["--no-index", "--no-deps", "-w", folder / "three", TOP / "bindings" / "python"]
+    ran, by_pip = run(python, "-m", "pip", "wheel", *words), folder / "three" / wanted
+    is_same = by_pip.exists() and by_pip.read_bytes() == wheels[0].read_bytes()
+    yield "pip makes the same of bindings/python", is_same, ran.stderr[-500:]
     ran = run("sh", WHEEL, folder / "one", DELTAT_LIBRARY=str(folder / "none"))
-    yield "without a library none is made", ran.returncode == 1 and "isn't there; build it with `make -C lib`" in ran.stderr, ran.stderr
+    is_said = "isn't there; build it with `make -C lib`" in ran.stderr
+    yield "without a library none is made", ran.returncode == 1 and is_said, ran.stderr
     ran = run("sh", WHEEL, folder / "no" / "folder")
     yield "wrong words are refused", ran.returncode == 2, ran.stderr
 
@@ -79,7 +81,8 @@ def programs(python: str, folder: pathlib.Path) -> Iterator[Case]:
     yield "docs/library.md shows examples/hello.py", text in (TOP / "docs" / "library.md").read_text(), ""
     for name, program in (("examples/hello.py", text), ("README", block_of("README.md", "## The library"))):
         lines = program.splitlines()
-        yield f"{name} has at most {MOST_LINES} lines", 0 < len(lines) <= MOST_LINES and max(map(len, lines)) <= 120, f"{len(lines)} lines"
+        is_short = 0 < len(lines) <= MOST_LINES and max(map(len, lines)) <= 120
+        yield f"{name} has at most {MOST_LINES} lines", is_short, f"{len(lines)} lines"
     # (a copy, so that it finds no bindings beside it)
     shutil.copytree(TOP / "examples", folder / "examples")
     ran = run(python, folder / "examples" / "hello.py")
@@ -113,10 +116,12 @@ def refused(python: str, folder: pathlib.Path) -> Iterator[Case]:
     ran = run(python, "-c", "import deltat", DELTAT_LIBRARY=str(old))
     error = ran.stderr.strip().splitlines()[-1]
     is_said = f"{old} has interface 1, and this package needs {ABI}; install" in error
-    yield "a library of interface 1 is an ImportError with both numbers", error.startswith("ImportError") and is_said, error
+    is_said = is_said and error.startswith("ImportError")
+    yield "a library of interface 1 is an ImportError with both numbers", is_said, error
     program = "import deltat\ntry:\n    deltat.Spent\nexcept AttributeError as why:\n    print(why)\n"
     ran = run(python, "-c", program)
-    yield "a name of interface 1 is refused, with the present one", "has Stopped in its place" in ran.stdout, ran.stdout + ran.stderr[-300:]
+    is_said = "has Stopped in its place" in ran.stdout
+    yield "a name of interface 1 is refused, with the present one", is_said, ran.stdout + ran.stderr[-300:]
 
 
 def installed(folder: pathlib.Path) -> Iterator[Case]:

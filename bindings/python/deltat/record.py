@@ -142,7 +142,8 @@ class Recorded(Node):
     def _setup_of(
         node: int, params: Params, links: Sequence[Link], routes: Mapping[int, int], start: Start
     ) -> list[str]:
-        """The setup of the script. Its addresses stand for those that its sockets had: nothing is sent there."""
+        """Returns the setup of the script. Its addresses are in the place of those of the sockets: nothing is sent
+        there."""
         it = params
         lines = [
             f"params {it.mpl} {it.r} {it.a} {it.rto} {it.probe} {it.seg} {it.cap} {it.rcap} {it.window} {it.run_limit} "

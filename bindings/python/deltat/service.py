@@ -423,7 +423,7 @@ class Calls:
                 self.node.wake  # Forked, in a child
                 return
             if clock.now() - self.udp._looked_at > MOST_BUSY:
-                # of many requests that wait each may take its time: the node isn't left alone for so long
+                # (many requests may wait, and each may take its time: the node's work is done between them)
                 self._look()
             while (request := self._desk.next_request(self._line)) is None:
                 left = None if end is None else end - time.monotonic()

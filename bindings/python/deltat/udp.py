@@ -83,7 +83,7 @@ class Udp:
         self._links = {address: links[number] for number, address in self._addresses.items()}
         self._next_hop = {link: address for address, link in self._links.items()}
         node._guard_by_default(max(len(peers), 1))
-        # (before there is a socket into which something could come)
+        # (before there is a socket in which something could arrive)
         self._empty_at = clock.now()
         self._offset = clock.wall() - self._empty_at
         self.socket = _bound(bind)
@@ -94,7 +94,7 @@ class Udp:
         self._looked_at = self._empty_at
         self._said: set[Status] = set()
         self._lock = threading.RLock()
-        # of `background`: how deep the program is in its blocks, how many it began, and who stands by
+        # of `background`: how deep the program is in its blocks, how many it began, and the thread that works meanwhile
         self._depth = self._begun = 0
         self._standby: threading.Thread | None = None
         _sockets.add(self)
@@ -205,17 +205,17 @@ class Udp:
         arrived."""
         with self._lock:
             self._check()
-            heard = self._receive()
+            sources = self._receive()
             at = clock.now()
             self.node.tick(at)
             self.flush(at)
-        return heard
+        return sources
 
     def _receive(self) -> set[int]:
         """Passes in what waits in the socket, up to 256 datagrams, and returns the nodes that made them. The clocks are
         read before each look: at that time, and not when the look has found nothing, the socket was empty. What leaves
         is put on the wire after some datagrams, or some milliseconds."""
-        heard, since, count = set(), None, 0
+        sources, since, count = set(), None, 0
         for _ in range(MOST_AT_ONCE):
             looked, wall = clock.now(), clock.wall()
             try:
@@ -232,7 +232,7 @@ class Udp:
                 continue
             status = self.node.receive(link, datagram, self._waited(ancillary, at), at)
             if status is Status.OK:
-                heard.add(int.from_bytes(datagram[8:12], "big"))
+                sources.add(int.from_bytes(datagram[8:12], "big"))
             elif status is Status.BLOCKED and status not in self._said:
                 self._said.add(status)
                 _log.warning(
@@ -248,7 +248,7 @@ class Udp:
         if since is not None:
             self.flush(since)
         self._looked_at = clock.now()
-        return heard
+        return sources
 
     def __iter__(self) -> Iterator[Message]:
         """Returns the messages that arrive, until the socket is closed. Raises OutOfMemory, or Stopped if the node ran
@@ -415,14 +415,14 @@ class AsyncUdp:
         if self.udp.is_closed:
             return
         try:
-            heard = self.udp._turn()
+            sources = self.udp._turn()
         except DeltatError as why:
             self._fail(why)
             return
         for taker in self._takers:
             taker()
         if self._lines:
-            for line in (it for number in heard for it in self._lines.get(number, {}).values()):
+            for line in (it for number in sources for it in self._lines.get(number, {}).values()):
                 line.ready.set()
         self._wake_receiver()
         self._arm_soon()

@@ -207,7 +207,7 @@ class Report(NamedTuple):
 
 
 def in_range(value: int, bits: int, what: str) -> int:
-    """Returns a number that has so many bits. (ctypes cuts others without an error.) Raises InvalidArgument."""
+    """Returns a number that fits into this many bits. (ctypes cuts others without an error.) Raises InvalidArgument."""
     if not 0 <= value < 1 << bits:
         raise InvalidArgument(f"{what} is {value}; it must be from 0 to {(1 << bits) - 1}", what, value)
     return value
