@@ -175,7 +175,7 @@ def try_loops(tally: Tally, driver: str, library: pathlib.Path, folder: pathlib.
     (service,) = interface.code("---- 11 SERVICES: REQUEST AND REPLY ----")
     language = Language("C99", ("-std=c99",), (driver,))
     # the second reads the clock after the look that found nothing, and has to fail
-    for way, loop in (("as it is", node), ("spoilt", node.replace("empty_at = looked_at;", "empty_at = now();"))):
+    for way, loop in (("as it is", node), ("spoilt", node.replace("empty_at = looked_at;", "(void)looked_at, empty_at = now();"))):
         room, built = folder / f"loops-{driver}-{way.split()[0]}", folder / f"loops-{driver}-{way.split()[0]}.out"
         room.mkdir()
         for name, text in (("node_functions", f"static {functions}"), ("node_loop", loop), ("service_loop", service)):
