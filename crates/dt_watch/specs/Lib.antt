@@ -1,0 +1,4 @@
+pub mod Drift
+pub mod Clocks
+pub mod Lower
+pub mod LowerRuns
