@@ -2,3 +2,8 @@ pub mod Drift
 pub mod Clocks
 pub mod Lower
 pub mod LowerRuns
+pub mod Upper
+pub mod Ages
+pub mod Windows
+pub mod Governor
+pub mod Openings
