@@ -9,7 +9,7 @@ use Rattle.dt_watch.specs.declared.lower.Lower.{Lower}
 use Rattle.dt_watch.specs.Drift.{drift_over}
 use Rattle.dt_watch.specs.Clocks.{GoTogether, HadPassed, WasHeard}
 use Rattle.dt_watch.specs.Lower.{aged_down, is_higher, kept_lower, kept_of, lower_at, most_passed, passed, passed_by, turned}
-use Rattle.dt_watch.specs.LowerRuns.{InOrder, WereHeard, lower_by, new_lower}
+use Rattle.dt_watch.specs.LowerRuns.{HadAllPassed, InOrder, WereHeard, lower_by, new_lower}
 use Rattle.dt_watch.proofs.Drifting.{drift_joined, drift_of_nothing, drift_parted, drift_within}
 
 -- a bound that is above the kept one, as that has aged, stays above it
@@ -31,7 +31,7 @@ lower_stays d kr ka er ea now slow one two below =
     omega (arith, whole, drift_joined d x y, drift_within d x slow, drift_within d y slow)
 
 -- at a reading after its own a bound says what it has aged to
-later_says : (b : ClockBounds) (e : Bound) (now : ℕ) → e.at.micros ≤ now → passed_by b e now ≡ aged_down b e now - b.grain
+pub later_says : (b : ClockBounds) (e : Bound) (now : ℕ) → e.at.micros ≤ now → passed_by b e now ≡ aged_down b e now - b.grain
 later_says b e now later = grind (arith, nat_tests)
 
 -- before it nothing
@@ -142,13 +142,18 @@ pub seen_holds : (b : ClockBounds) (clock other : ℕ → ℕ) (kept : Option Bo
 seen_holds b clock other None e one two = two
 seen_holds b clock other (Some kept) e one two = test_holds clock other kept e (is_higher b kept e) one two
 
-run_had_passed : (clock other : ℕ → ℕ) (l : Lower) (seen : List (Option Bound)) (t : ℕ) → GoTogether l.bounds clock other → Holds clock other l.present → Holds clock other l.former → WereHeard clock other seen → lower_at (lower_by l seen) (other t) ≤ clock t
-run_had_passed clock other l [] t together one two heard =
+pub run_had_passed : (clock other : ℕ → ℕ) (l : Lower) (seen : List (Option Bound)) (t : ℕ) → GoTogether l.bounds clock other → Holds clock other l.present → Holds clock other l.former → HadAllPassed clock other seen → lower_at (lower_by l seen) (other t) ≤ clock t
+run_had_passed clock other l [] t together one two had =
     let present = held_is_passed l.bounds clock other l.present t together one in
     let former = held_is_passed l.bounds clock other l.former t together two in
     omega (arith, present, former)
-run_had_passed clock other l (None ∷ seen) t together one two heard = run_had_passed clock other (record l { present = None; former = turned l.present l.former }) seen t together tt (turn_holds clock other l.present l.former one two) heard
-run_had_passed clock other l (Some e ∷ seen) t together one two heard = run_had_passed clock other (record l { present = kept_lower l.bounds l.present e }) seen t together (seen_holds l.bounds clock other l.present e one (heard_had_passed l.bounds clock other e together heard.0)) two heard.1
+run_had_passed clock other l (None ∷ seen) t together one two had = run_had_passed clock other (record l { present = None; former = turned l.present l.former }) seen t together tt (turn_holds clock other l.present l.former one two) had
+run_had_passed clock other l (Some e ∷ seen) t together one two had = run_had_passed clock other (record l { present = kept_lower l.bounds l.present e }) seen t together (seen_holds l.bounds clock other l.present e one had.0) two had.1
+
+all_heard : (b : ClockBounds) (clock other : ℕ → ℕ) (seen : List (Option Bound)) → GoTogether b clock other → WereHeard clock other seen → HadAllPassed clock other seen
+all_heard b clock other [] together heard = tt
+all_heard b clock other (None ∷ seen) together heard = all_heard b clock other seen together heard
+all_heard b clock other (Some e ∷ seen) together heard = (heard_had_passed b clock other e together heard.0, all_heard b clock other seen together heard.1)
 
 pub sure_had_passed : (b : ClockBounds) (clock other : ℕ → ℕ) (seen : List (Option Bound)) (t : ℕ) → GoTogether b clock other → WereHeard clock other seen → lower_at (lower_by (new_lower b) seen) (other t) ≤ clock t
-sure_had_passed b clock other seen t together heard = run_had_passed clock other (new_lower b) seen t together tt tt heard
+sure_had_passed b clock other seen t together heard = run_had_passed clock other (new_lower b) seen t together tt tt (all_heard b clock other seen together heard)

@@ -3,7 +3,7 @@ use Rattle.std.specs.Prelude.{ℕ, ◌≤◌, List, [], ◌∷◌, Option, Some,
 use Rattle.dt_watch.specs.declared.clock_bounds.ClockBounds.{ClockBounds}
 use Rattle.dt_watch.specs.declared.readings.Bound.{Bound}
 use Rattle.dt_watch.specs.declared.lower.Lower.{Lower}
-use Rattle.dt_watch.specs.Clocks.{WasHeard}
+use Rattle.dt_watch.specs.Clocks.{HadPassed, WasHeard}
 use Rattle.dt_watch.specs.Lower.{kept_lower, turned}
 
 -- bounds come in the order of the other clock, from one reading of it to another
@@ -25,3 +25,9 @@ abbrev pub WereHeard : (ℕ → ℕ) → (ℕ → ℕ) → List (Option Bound) �
 WereHeard clock other [] = Unit {0}
 WereHeard clock other (None ∷ seen) = WereHeard clock other seen
 WereHeard clock other (Some e ∷ seen) = WasHeard clock other e × WereHeard clock other seen
+
+-- each bound of a run is true
+abbrev pub HadAllPassed : (ℕ → ℕ) → (ℕ → ℕ) → List (Option Bound) → Type 0
+HadAllPassed clock other [] = Unit {0}
+HadAllPassed clock other (None ∷ seen) = HadAllPassed clock other seen
+HadAllPassed clock other (Some e ∷ seen) = HadPassed clock other e × HadAllPassed clock other seen
