@@ -5,3 +5,4 @@ pub mod Standing
 pub mod Aging
 pub mod Entering
 pub mod Leaving
+pub mod Rates

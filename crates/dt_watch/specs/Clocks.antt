@@ -34,3 +34,9 @@ pub record WasHeard (clock other : ℕ → ℕ) (e : Bound) : Type 0 where
   pub order : read_at ≤ heard_at
   pub reading : clock read_at ≡ e.reading.micros
   pub at : other heard_at ≡ e.at.micros
+
+-- A CLOCK KEEPS ITS RATE: over each span of the true time, in microseconds, it goes on by as much, but for so many parts in a million of it and for the steps in which it is read
+pub record KeepsRate (drift step : ℕ) (clock : ℕ → ℕ) : Type 0 where
+  pub onward : GoesOn clock
+  pub fast : (t u : ℕ) → t ≤ u → 1000000 * (clock u - clock t) ≤ (1000000 + drift) * (u - t) + 1000000 * step
+  pub slow : (t u : ℕ) → t ≤ u → (1000000 - drift) * (u - t) ≤ 1000000 * (clock u - clock t) + 1000000 * step

@@ -4,10 +4,11 @@ ghost use Rattle.std.specs.Prelude.{◌≡◌, ◌<◌, ◌≤◌, ◌^◌, ◌�
 /// How far two clocks go apart, both read in microseconds.
 #[derive(Clone, Copy)]
 pub struct ClockBounds {
-    /// By how many parts in a million each of the two is faster or slower than the true time: 0 to 1,000.
+    /// Half of how many parts in a million of a span of the second clock the spans of both differ by: 0 to
+    /// 1,000. For two clocks that are each within d parts of the true time it is d + 1.
     pub drift: u32,
     /// How many microseconds the reading of both adds, at most, to the difference of two spans: 0 to
-    /// 1,000,000. For clocks that are read in steps it is two steps of the coarser one.
+    /// 1,000,000. For clocks that are read in steps it is three steps.
     pub grain: u32,
     ghost slow: { drift ≤ 1000 },
     ghost fine: { grain ≤ 1000000 },

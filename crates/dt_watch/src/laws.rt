@@ -4,13 +4,19 @@ ghost use Rattle.std.specs.Prelude.{ℕ, ◌≡◌, ◌+◌, ◌-◌, ◌*◌, �
 ghost use Rattle.dt_watch.specs.declared.clock_bounds.ClockBounds.{ClockBounds};
 ghost use Rattle.dt_watch.specs.declared.readings.Bound.{Bound};
 ghost use Rattle.dt_watch.specs.Ages.{IsMade, age_of, waited_of};
-ghost use Rattle.dt_watch.specs.Clocks.{GoTogether, HadNotPassed, HadPassed, WasHeard};
+ghost use Rattle.dt_watch.specs.Clocks.{GoTogether, HadNotPassed, HadPassed, KeepsRate, WasHeard};
 ghost use Rattle.dt_watch.specs.Drift.{drift_over};
 ghost use Rattle.dt_watch.specs.Lower.{aged_down, kept_of, lower_at, most_passed, passed};
 ghost use Rattle.dt_watch.specs.LowerRuns.{HadAllPassed, InOrder, WereHeard, lower_by, new_lower};
 ghost use Rattle.dt_watch.specs.Stops.{Came, RestsOn, unstopped};
 ghost use Rattle.dt_watch.specs.Upper.{aged_up, upper_at};
 ghost use Rattle.dt_watch.specs.UpperRuns.{HadNonePassed, new_upper, upper_by};
+
+/// CLOCKS THAT KEEP THEIR RATES GO TOGETHER: two clocks, each within `d` parts in a million of the true time,
+/// up to 999, and read in steps of `step` microseconds, where the bounds have one part more and three steps.
+pub fn clocks_that_keep_their_rates_go_together()
+    ensures { (b : ClockBounds) (d step : ℕ) (clock other : ℕ → ℕ) → d < 1000 → d + 1 ≤ b.drift → 3 * step ≤ b.grain → KeepsRate d step clock → KeepsRate d step other → GoTogether b clock other }
+{}
 
 /// ONE BOUND IS ENOUGH: what is kept of a span says as much, at each later reading, as the most that any of
 /// the bounds says that were seen in it, in their order.
