@@ -1,7 +1,7 @@
 -- How old a datagram is at most.
-use Rattle.std.proofs.Common.{◌≡◌, ◌+◌, ◌*◌, ◌≤◌, ◌<◌, ◌^◌, ℕ, arith}
-use Rattle.std.specs.Prelude.{◌-◌, ◌/◌, min}
-use Rattle.dt_watch.specs.Ages.{IsMade, age_of, millis, waited_of}
+use Rattle.std.proofs.Common.{◌+◌, ◌*◌, ◌≤◌, ◌<◌, ◌^◌, ℕ, arith}
+use Rattle.std.specs.Prelude.{◌-◌, ◌/◌}
+use Rattle.dt_watch.specs.Ages.{IsMade, age_of, waited_of}
 
 pub no_older : (clock : ℕ → ℕ) (sure made came uncertain : ℕ) → IsMade clock sure made came → clock came - clock made ≤ age_of (clock came) sure uncertain
 no_older clock sure made came uncertain is = omega (arith, is.passed)

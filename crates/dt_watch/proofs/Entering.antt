@@ -1,5 +1,5 @@
 -- What is under way.
-use Rattle.std.proofs.Common.{◌≡◌, ◌+◌, ◌*◌, ◌≤◌, ℕ, arith, inl, inr}
+use Rattle.std.proofs.Common.{◌+◌, ◌≤◌, ℕ, arith, inl, inr}
 use Rattle.std.specs.Prelude.{max}
 use Rattle.dt_watch.specs.declared.windows.Window.{Window}
 use Rattle.dt_watch.specs.Windows.{MayEnter, Runs, enters, settles, starts}

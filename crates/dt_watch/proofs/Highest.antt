@@ -1,6 +1,6 @@
 -- What was surely not passed.
-use Rattle.std.proofs.Common.{◌≡◌, ◌+◌, ◌*◌, ◌≤◌, ◌<◌, ◌∙◌, ℕ, List, [], ◌∷◌, Bool, true, false, Option, Some, None, ap, arith, refl, inl, inr}
-use Rattle.std.specs.Prelude.{◌-◌, ◌&&◌, IfSome, min, nat_le, nat_lt, if◌then◌else◌}
+use Rattle.std.proofs.Common.{◌≡◌, ◌+◌, ◌≤◌, ℕ, List, [], ◌∷◌, Bool, true, false, Option, Some, None, ap, arith, refl, inl, inr}
+use Rattle.std.specs.Prelude.{◌-◌, IfSome, nat_le, if◌then◌else◌}
 use Rattle.std.proofs.lemmas.Bool.{cases_lt}
 use Rattle.std.proofs.lemmas.Bool.Decides.{nat_tests}
 use Rattle.dt_watch.specs.declared.clock_bounds.ClockBounds.{ClockBounds}

@@ -1,19 +1,17 @@
 -- A former opening stays one.
 use Rattle.std.proofs.Common.{◌≡◌, ◌≢◌, ◌+◌, ◌≤◌, ◌<◌, ◌∙◌, ℕ, List, [], ◌∷◌, Bool, true, false, Option, Some, None, ap, arith, refl, sym, subst}
-use Rattle.std.specs.Prelude.{◌==◌, ◌&&◌, nat_le, nat_lt, if◌then◌else◌}
+use Rattle.std.specs.Prelude.{◌==◌, nat_le, nat_lt, if◌then◌else◌}
 use Rattle.std.proofs.lemmas.Bool.Decides.{nat_tests}
 use Rattle.dt_watch.specs.declared.readings.Reading.{Reading}
 use Rattle.dt_watch.specs.declared.clock_bounds.ClockBounds.{ClockBounds}
 use Rattle.dt_watch.specs.declared.readings.Bound.{Bound}
 use Rattle.dt_watch.specs.declared.arrivals.Arrival.{Arrival}
 use Rattle.dt_watch.specs.declared.arrivals.Opening.{Opening}
-use Rattle.dt_watch.specs.declared.arrivals.Judgement.{Judgement}
-use Rattle.dt_watch.specs.declared.arrivals.Judgement.TheVariants.{Early, Former, OtherParameters, Present, Unproved}
+use Rattle.dt_watch.specs.declared.arrivals.Judgement.TheVariants.{Former, OtherParameters, Present, Unproved}
 use Rattle.dt_watch.specs.declared.openings.Openings.{Openings}
 use Rattle.dt_watch.specs.Clocks.{GoesOn}
-use Rattle.dt_watch.specs.Drift.{drift_over}
-use Rattle.dt_watch.specs.Lower.{aged_down, passed_by}
-use Rattle.dt_watch.specs.Openings.{entered, first_of, judgement_by, judgement_of, later_of, newcomer, opened, opening_in, openings_after}
+use Rattle.dt_watch.specs.Lower.{passed_by}
+use Rattle.dt_watch.specs.Openings.{entered, first_of, judgement_by, later_of, opening_in, openings_after}
 use Rattle.dt_watch.specs.Former.{HaveNoneAfter, NoneIsTaken}
 use Rattle.dt_watch.proofs.Lowest.{later_says}
 

@@ -1,6 +1,6 @@
 -- The bound that is kept says most.
-use Rattle.std.proofs.Common.{◌≡◌, ◌+◌, ◌*◌, ◌≤◌, ◌<◌, ◌∙◌, ℕ, List, [], ◌∷◌, Bool, true, false, Option, Some, None, ap, arith, refl, inl, inr}
-use Rattle.std.specs.Prelude.{◌-◌, ◌&&◌, max, nat_le, nat_lt, if◌then◌else◌, IsTrue}
+use Rattle.std.proofs.Common.{◌≡◌, ◌+◌, ◌≤◌, ◌<◌, ◌∙◌, ℕ, List, [], ◌∷◌, Bool, true, false, Option, Some, None, ap, arith, refl, inl, inr}
+use Rattle.std.specs.Prelude.{◌-◌, max, if◌then◌else◌}
 use Rattle.std.proofs.lemmas.Bool.{cases_lt}
 use Rattle.std.proofs.lemmas.Bool.Decides.{nat_tests}
 use Rattle.dt_watch.specs.declared.clock_bounds.ClockBounds.{ClockBounds}

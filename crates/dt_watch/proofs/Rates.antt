@@ -1,5 +1,5 @@
 -- Clocks that keep their rates go together.
-use Rattle.std.proofs.Common.{◌≡◌, ◌+◌, ◌*◌, ◌≤◌, ◌<◌, ℕ, ap, arith, inl, inr, refl}
+use Rattle.std.proofs.Common.{◌≡◌, ◌+◌, ◌*◌, ◌≤◌, ◌<◌, ℕ, ap, arith, inl, inr}
 use Rattle.std.specs.Prelude.{◌-◌, ◌/◌}
 use Rattle.std.proofs.Math.Nat.{le_of_mul-le-mul_left, mul-le-mul_left, mul-le-mul_right}
 use Rattle.std.proofs.lemmas.Bool.{cases_lt}
@@ -19,21 +19,21 @@ across m d one other span step some fast slow =
 no_longer : (m d one other drift step : ℕ) → 0 < m → m * one ≤ (m + d + d) * other + 2 * (m + d) * step → 2 * d * one ≤ (m + d) * drift → one ≤ other + (drift + 3 * step)
 no_longer m d one other drift step some across over =
     elim (cases_lt (other + (drift + 3 * step)) one) [
-      inl more ↦
-        let times = mul-le-mul_left (m + d + d) more in
-        absurd (omega (arith, times, across, over))
-    | inr less ↦ less
+      | inl more ↦
+          let times = mul-le-mul_left (m + d + d) more in
+          absurd (omega (arith, times, across, over))
+      | inr less ↦ less
     ]
 
 -- nor with the drift over the other, where that counts one part more
 no_longer_over : (m d one other drift step : ℕ) → 2 * d ≤ m → d < m → m * one ≤ (m + d + d) * other + 2 * (m + d) * step → 2 * d * other + 2 * other ≤ (m + d) * drift → d * drift ≤ 2 * other + d → one ≤ other + (drift + 3 * step)
 no_longer_over m d one other drift step wide below across over under =
     elim (cases_lt (other + (drift + 3 * step)) one) [
-      inl more ↦
-        let times = mul-le-mul_left m more in
-        let steps = mul-le-mul_right step wide in
-        absurd (omega (arith, times, steps, across, over, under))
-    | inr less ↦ less
+      | inl more ↦
+          let times = mul-le-mul_left m more in
+          let steps = mul-le-mul_right step wide in
+          absurd (omega (arith, times, steps, across, over, under))
+      | inr less ↦ less
     ]
 
 drift_covers : (d drift span : ℕ) → d + 1 ≤ drift → 2 * d * span + 2 * span ≤ 1000000 * drift_over drift span

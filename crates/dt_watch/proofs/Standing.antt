@@ -1,5 +1,5 @@
 -- Clocks that stand for a while.
-use Rattle.std.proofs.Common.{◌≡◌, ◌+◌, ◌*◌, ◌≤◌, ◌<◌, ◌∙◌, ℕ, ap, arith, refl, inl, inr}
+use Rattle.std.proofs.Common.{◌≡◌, ◌+◌, ◌*◌, ◌≤◌, ◌∙◌, ℕ, ap, arith, inl, inr}
 use Rattle.std.specs.Prelude.{◌-◌}
 use Rattle.std.proofs.lemmas.Bool.{cases_lt}
 use Rattle.dt_watch.specs.declared.clock_bounds.ClockBounds.{ClockBounds}
@@ -10,7 +10,7 @@ use Rattle.dt_watch.specs.Clocks.{GoTogether, HadNotPassed, HadPassed, WasHeard}
 use Rattle.dt_watch.specs.Lower.{aged_down}
 use Rattle.dt_watch.specs.Stops.{Came, RestsOn, unstopped}
 use Rattle.dt_watch.specs.Upper.{aged_up}
-use Rattle.dt_watch.proofs.Drifting.{drift_joined, drift_of_nothing, drift_within}
+use Rattle.dt_watch.proofs.Drifting.{drift_joined, drift_within}
 
 -- what is sure rests on the stamp that was heard
 pub rests_on : (b : ClockBounds) (clock stood other : ℕ → ℕ) (e : Bound) (heard : WasHeard clock other e) (t : ℕ) → GoTogether b (unstopped clock stood) other → heard.heard_at ≤ t → aged_down b e (other t) - b.grain + stood heard.read_at ≤ unstopped clock stood t

@@ -1,6 +1,5 @@
 -- How old a datagram is at most.
-use Rattle.std.specs.Prelude.{◌≡◌, ℕ, ◌+◌, ◌*◌, ◌-◌, ◌/◌, ◌^◌, ◌<◌, ◌≤◌, min}
-use Rattle.dt_watch.specs.Clocks.{GoesOn}
+use Rattle.std.specs.Prelude.{ℕ, ◌+◌, ◌-◌, ◌/◌, ◌^◌, ◌≤◌, min}
 
 -- by the receiver's clock: from the reading that it had surely passed to the one at which the datagram came
 abbrev pub age_of : ℕ → ℕ → ℕ → ℕ

@@ -1,5 +1,5 @@
 -- Which opening of a peer is the present one.
-use Rattle.std.specs.Prelude.{◌≡◌, ◌≢◌, ℕ, ◌+◌, ◌≤◌, ◌==◌, ◌&&◌, Bool, false, not, nat_le, nat_lt, if◌then◌else◌, List, [], ◌∷◌, Option, Some, None}
+use Rattle.std.specs.Prelude.{ℕ, ◌+◌, ◌==◌, ◌&&◌, Bool, false, not, nat_le, nat_lt, if◌then◌else◌, Option, Some, None}
 use Rattle.dt_watch.specs.declared.readings.Reading.{Reading}
 use Rattle.dt_watch.specs.declared.arrivals.Arrival.{Arrival}
 use Rattle.dt_watch.specs.declared.arrivals.Opening.{Opening}

@@ -1,5 +1,5 @@
 -- How much may be under way to one peer.
-use Rattle.std.specs.Prelude.{◌≡◌, ℕ, ◌+◌, ◌*◌, ◌-◌, ◌/◌, ◌≤◌, ◌⊎◌, Bool, max, min, if◌then◌else◌, List, [], ◌∷◌}
+use Rattle.std.specs.Prelude.{◌≡◌, ℕ, ◌+◌, ◌*◌, ◌-◌, ◌/◌, ◌≤◌, ◌⊎◌, Bool, max, min, if◌then◌else◌}
 use Rattle.dt_watch.specs.declared.windows.Window.{Window}
 
 -- LARGER: by half, or by a 64th or eight segments

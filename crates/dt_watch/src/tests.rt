@@ -88,7 +88,12 @@ fn newer_reading_makes_an_opening_the_present_one(rt: HostRuntime) {
     assert!(rt; openings.judge(&arrival(2, 8, 50)) == Judgement::Early);
     assert!(rt; openings.judge(&arrival(1, 10, 60)) == Judgement::Former);
     assert!(rt; openings.judge(&arrival(2, 8, 520)) == Judgement::Present);
-    assert!(rt; openings.judge(&Arrival { fingerprint: 8, ..arrival(2, 9, 530) }) == Judgement::OtherParameters);
+    assert!(rt;
+        openings.judge(&Arrival {
+            fingerprint: 8,
+            ..arrival(2, 9, 530)
+        }) == Judgement::OtherParameters
+    );
 }
 
 fn window_holds(window: &mut Window) -> bool {
