@@ -1,0 +1,13 @@
+pub mod Drift
+pub mod Clocks
+pub mod Lower
+pub mod LowerRuns
+pub mod Upper
+pub mod UpperRuns
+pub mod Stops
+pub mod Ages
+pub mod Windows
+pub mod Governor
+pub mod Openings
+pub mod Former
+pub mod Intervals
