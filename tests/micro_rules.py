@@ -24,7 +24,7 @@ import run  # noqa: E402
 
 MICRO, PARTS = TOP / "micro", TOP / "tests" / "micro" / "parts.c"
 # a wrong rule may act for ever: what it writes is cut at 4 MiB, and its time at 2 s
-LIMITED = ["sh", "-c", 'ulimit -t 2 -f 8192; exec "$@"', "limited"]
+LIMITED = ["sh", "-c", 'ulimit -t 2; ulimit -f 8192; exec "$@"', "limited"]
 FLAGS = ["-std=c99", "-O0", "-w"]
 # the rule that is broken, and what stands for what in deltat_micro.c
 RULES = [
