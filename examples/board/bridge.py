@@ -23,9 +23,10 @@ LONGEST_RUN = 254
 
 def stuff(octets: bytes) -> bytes:
     """The octets without a 0 (COBS)."""
-    out = bytearray()
-    for run in octets.split(b"\0"):
-        while len(run) >= LONGEST_RUN:
+    out, runs = bytearray(), octets.split(b"\0")
+    for at, run in enumerate(runs):
+        is_last = at == len(runs) - 1
+        while len(run) > LONGEST_RUN or len(run) == LONGEST_RUN and not is_last:
             out += bytes([LONGEST_RUN + 1]) + run[:LONGEST_RUN]
             run = run[LONGEST_RUN:]
         out += bytes([len(run) + 1]) + run
