@@ -1,6 +1,6 @@
-"""How much an implementation must have room for, so that a case can hold: read from the case's input and its right answer.
+"""How much an implementation must have room for, so that a case can hold: read from the case's input and its answer.
 
-A device has fewer segments, records and places for waiting datagrams than this project's program. Where its limit is met
+A device has fewer segments, records and places for waiting datagrams than this project's program. If its limit is met
 its log may differ, and it is right for all that; run.py leaves out the cases that would meet it."""
 from __future__ import annotations
 

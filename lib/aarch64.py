@@ -53,7 +53,8 @@ def compiled(compiler: str, folder: str) -> list[pathlib.Path] | None:
         members.append(pathlib.Path(folder, f"{source.stem}.o"))
         flags = ["-O2", "-Wall", "-Wextra", "-Werror", "-fPIC", f"-I{TOP / 'include'}"]
         if subprocess.run([compiler, *flags, "-c", source, "-o", members[-1]], check=False).returncode:
-            print(f"aarch64.py: {compiler} doesn't compile {source.name}; install libc6-dev-arm64-cross, or say --without-heap", file=sys.stderr)
+            what = f"{compiler} doesn't compile {source.name}; install libc6-dev-arm64-cross, or say --without-heap"
+            print(f"aarch64.py: {what}", file=sys.stderr)
             return None
     return members
 
@@ -69,7 +70,8 @@ def proved(archive: pathlib.Path) -> tuple[int, pathlib.Path]:
 
 def main() -> int:
     reads = argparse.ArgumentParser(description=__doc__, formatter_class=argparse.RawDescriptionHelpFormatter)
-    reads.add_argument("--without-heap", action="store_true", help="leave out the C files of lib/: the program has the functions of heap.c")
+    what = "leave out the C files of lib/: the program has the functions of heap.c"
+    reads.add_argument("--without-heap", action="store_true", help=what)
     given = reads.parse_args()
     compiler = os.environ.get("CC", "aarch64-linux-gnu-gcc")
     missing = [it for it in ([] if given.without_heap else [compiler]) + ["rt"] if not shutil.which(it)]

@@ -57,7 +57,8 @@ def said(command: list[str]) -> dict[str, int]:
 
 
 def is_right(found: dict[str, int]) -> bool:
-    return found["messages read"] == found["messages sent"] == 100 and found["octets read"] == 30_000 and found["arena, most"] <= MOST_ARENA and found["arena after the close"] == 0
+    whole = found["messages read"] == found["messages sent"] == 100 and found["octets read"] == 30_000
+    return whole and found["arena, most"] <= MOST_ARENA and found["arena after the close"] == 0
 
 
 def main() -> int:

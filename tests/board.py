@@ -66,7 +66,8 @@ def free_ports(count: int) -> list[int]:
 
 def script(local: int, peer: int, chance: random.Random, start: str) -> tuple[str, list[bytes]]:
     """Node 2 reads all the time, and sends messages for 6 s; the script, and the messages."""
-    lines = ["params 1000 3000 50 300 800 128 512 512 512 2147483648 7", f"me 2 {start}", f"local 127.0.0.1:{local}", f"peer 1 127.0.0.1:{peer} 200 0", "route 1 1", "go"]
+    lines = ["params 1000 3000 50 300 800 128 512 512 512 2147483648 7", f"me 2 {start}", f"local 127.0.0.1:{local}",
+             f"peer 1 127.0.0.1:{peer} 200 0", "route 1 1", "go"]
     sent = []
     for at in range(0, SECONDS * 1000 + 2000, 50):
         lines += [f"at {at} read 1:10>2:20 65536", f"at {at} read 1:11>2:21 65536"]
@@ -103,8 +104,10 @@ def start_board(firmware: str, folder: pathlib.Path, flash: bytes) -> subprocess
     for name in ("uart", "monitor", "board.log", "flash.now"):
         (folder / name).unlink(missing_ok=True)
     return subprocess.Popen([
-        "qemu-system-arm", "-M", "mps2-an385", "-display", "none", "-kernel", firmware, "-device", f"loader,file={folder / 'flash'},addr={FLASH[0]:#x},force-raw=on",
-        "-monitor", f"unix:{folder / 'monitor'},server=on,wait=off", "-chardev", f"socket,id=u,path={folder / 'uart'},server=on,wait=off", "-serial", "chardev:u",
+        "qemu-system-arm", "-M", "mps2-an385", "-display", "none", "-kernel", firmware,
+        "-device", f"loader,file={folder / 'flash'},addr={FLASH[0]:#x},force-raw=on",
+        "-monitor", f"unix:{folder / 'monitor'},server=on,wait=off",
+        "-chardev", f"socket,id=u,path={folder / 'uart'},server=on,wait=off", "-serial", "chardev:u",
         "-semihosting-config", "enable=on,target=native,chardev=s", "-chardev", f"file,id=s,path={folder / 'board.log'}"])
 
 

@@ -36,7 +36,8 @@ sys.path[:0] = [str(TOP / "examples" / "board")]
 import bridge  # noqa: E402
 
 SERIAL, ENDS = TOP / "lib" / "serial", TOP / "tests" / "serial"
-FLAGS = ["-std=c11", "-D_GNU_SOURCE", "-g", "-O1", "-Wall", "-Wextra", "-Werror", "-fsanitize=address,undefined", "-fno-sanitize-recover=all", f"-I{TOP / 'include'}", f"-I{SERIAL}"]
+FLAGS = ["-std=c11", "-D_GNU_SOURCE", "-g", "-O1", "-Wall", "-Wextra", "-Werror", "-fsanitize=address,undefined",
+         "-fno-sanitize-recover=all", f"-I{TOP / 'include'}", f"-I{SERIAL}"]
 FLOWS, MESSAGES = 3, 40
 # octets a second at 115,200 bits, 10 of them an octet
 RATE = 11_520
@@ -134,7 +135,8 @@ def exchange(program: str, flips: float, losses: float, half: bool, seed: int) -
     """Both ends over a line, until both have ended."""
     chance, wire = random.Random(seed), line()
     ways = [Way(wire.masters[i], wire.masters[1 - i], flips, losses, chance) for i in range(2)]
-    ends = [subprocess.Popen([program, wire.paths[i], str(1 + i), str(2 - i), str(FLOWS), str(MESSAGES), "45", "8" if half else "0"], stdout=subprocess.PIPE, text=True) for i in range(2)]
+    words = [str(FLOWS), str(MESSAGES), "45", "8" if half else "0"]
+    ends = [subprocess.Popen([program, wire.paths[i], str(1 + i), str(2 - i), *words], stdout=subprocess.PIPE, text=True) for i in range(2)]
     begun = time.monotonic()
     for it in ways:
         it.at = begun
@@ -148,20 +150,17 @@ def exchange(program: str, flips: float, losses: float, half: bool, seed: int) -
     return [End.of(it.returncode, text) for it, text in zip(ends, texts)], ways
 
 
-def length(number: int) -> int:
-    return 4 + number * 7 % 120
-
-
 def is_sound(what: str, end: End, other: End) -> bool:
-    """Whether what an end got of the other is right: in order, once, and no octets missing that weren't reported."""
+    """Whether what an end got of the other is right: in order, once, and each that is missing has an octet that its sender
+    reported uncertain, has under way, or didn't send."""
     good = end.status == 0 and end.wrong == 0 and bool(end.counts)
     for port in range(10, 10 + FLOWS):
         got = end.got.get(port, [])
-        missing = sum(length(it) for it in range(MESSAGES) if it not in got)
-        # a message that was cut by what is uncertain is missing whole
-        lost = other.uncertain.get(port, 0)
-        good = good and got == sorted(set(got)) and (missing == 0 or lost > 0 or other.counts[6] > 0 or other.counts[0] < FLOWS * MESSAGES)
-    print(f"{what}: got {sum(map(len, end.got.values()))} of {other.counts[0] if other.counts else '?'}, uncertain {sum(other.uncertain.values())}, counts {end.counts}{'' if good else ': WRONG'}")
+        unsent, under_way = FLOWS * MESSAGES - other.counts[0], other.counts[6]
+        good = good and got == sorted(set(got)) and MESSAGES - len(got) <= other.uncertain.get(port, 0) + under_way + unsent
+    uncertain = sum(other.uncertain.values())
+    print(f"{what}: got {sum(map(len, end.got.values()))} of {other.counts[0] if other.counts else '?'}, {uncertain} octets uncertain, "
+          f"counts {end.counts}{'' if good else ': WRONG'}")
     return good
 
 
@@ -191,13 +190,13 @@ def clean(program: str, seed: int) -> bool:
 
 def bad(program: str, seed: int) -> bool:
     good, ends, _ = run("bad", program, 1 / 400, 1 / 800, False, seed)
-    return good and all(it.counts[3] > 5 and sum(map(len, it.got.values())) > MESSAGES for it in ends)
+    return good and all(it.counts[3] > 5 and sum(map(len, it.got.values())) > MESSAGES // 2 for it in ends)
 
 
 def half(program: str, seed: int) -> bool:
     good, ends, ways = run("half", program, 0, 0, True, seed)
     print(f"half: {[it.collisions for it in ways]} times both ends sent")
-    return good and all(sum(map(len, it.got.values())) > MESSAGES for it in ends)
+    return good and all(sum(map(len, it.got.values())) > MESSAGES // 2 for it in ends)
 
 
 def gone(program: str) -> bool:

@@ -1,10 +1,10 @@
 #!/usr/bin/env python3
-"""Between a board's UART (a unix socket of QEMU) and a node over UDP. Of both ways it loses, repeats and delays datagrams,
-and on the way to the board it changes octets.
+"""Between a board's UART (a unix socket of QEMU) and a node over UDP. Both ways it loses, repeats and delays datagrams, and
+on the way to the board it changes octets.
 
-`bridge.py SOCKET LOCAL-PORT NODE-PORT [--loss PART] [--seconds S] [--seed N]`: a PART of the datagrams is lost, half of it
-comes twice, a third of it is spoilt. Each is under way for at most 80 ms, so a charge of 200 ms covers a bridge that is held
-up for 100. Datagrams go stuffed and with their CRC-32, as in line.c. At its end it prints what it did."""
+`bridge.py SOCKET LOCAL-PORT NODE-PORT [--loss PART] [--seconds S] [--seed N]`: a PART of the datagrams is lost, half as
+many arrive twice, a third as many are spoilt. Each is under way for at most 80 ms, so a charge of 200 ms covers a bridge
+that is held up for 100. Datagrams are stuffed and have their CRC-32, as in line.c. At its end it prints what it did."""
 from __future__ import annotations
 
 import argparse
@@ -68,7 +68,8 @@ class Bridge:
         self.counts["lost"] += copies == 0
         self.counts["twice"] += copies == 2
         for _ in range(copies):
-            heapq.heappush(self.late, (time.monotonic() + self.chance.random() * MOST_LATE, next(self.number), way, datagram))
+            due = time.monotonic() + self.chance.random() * MOST_LATE
+            heapq.heappush(self.late, (due, next(self.number), way, datagram))
 
     def from_line(self) -> bool:
         octets = self.line.recv(4096)
@@ -92,8 +93,8 @@ class Bridge:
         self.line.sendall(out)
 
     def turn(self) -> bool:
-        """Waits for what comes, hands over what is due; whether the line is still there. What it would hand over too late,
-        since it was held up itself, is lost: the charge doesn't cover more."""
+        """Waits for what arrives, hands over what is due; whether the line is still there. What it would hand over too
+        late, since it was held up itself, is lost: the charge doesn't cover more."""
         wait = max(self.late[0][0] - time.monotonic(), 0) if self.late else 0.1
         ready, _, _ = select.select([self.line, self.udp], [], [], min(wait, 0.1))
         if self.udp in ready:

@@ -46,7 +46,7 @@ int main(int count, char **words) {
     bool has_strayed = false;
     for (uint32_t i = 0; i < flows; i++) ports[i] = (uint16_t)(FIRST_PORT + i);
     o.path = words[1], o.node = (uint32_t)atoi(words[2]), o.peer = (uint32_t)atoi(words[3]);
-    o.params = (struct dt_params){sizeof o.params, 1000, 4000, 20, 400, 800, 128, 2048, 2048, 512, 2147483648u, 4294967000u};
+    o.params = (struct dt_params){sizeof o.params, 4000, 12000, 20, 400, 800, 128, 2048, 2048, 512, 2147483648u, 4294967000u};
     o.start_as = DT_START_FIRST, o.ports = ports, o.port_count = flows, o.turnaround = (uint32_t)atoi(words[7]);
     o.max_flows = flows;
     dt_serial *serial = dt_serial_open(&o, &error);
