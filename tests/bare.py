@@ -29,7 +29,7 @@ SIX = {"rattle_alloc", "rattle_realloc", "rattle_dealloc", "memcpy", "memmove", 
 MOST_ARENA = 1_120_000
 COMPILE = ["-std=c11", "-O2", "-Wall", "-Wextra", "-Werror", "-ffreestanding", "-fno-stack-protector", "-fno-tree-loop-distribute-patterns", "-nostdlib", "-static",
            "-fno-pie", "-no-pie", f"-I{TOP / 'include'}", "-Wl,--gc-sections", "-Wl,--build-id=none"]
-EMULATOR = ["qemu-system-aarch64", "-M", "virt", "-cpu", "cortex-a53", "-m", "64", "-display", "none", "-monitor", "none", "-serial", "none",
+EMULATOR = ["qemu-system-aarch64", "-M", "virt", "-cpu", "cortex-a53", "-m", "64", "-nic", "none", "-display", "none", "-monitor", "none", "-serial", "none",
             "-semihosting-config", "enable=on,target=native,chardev=s", "-chardev", "stdio,id=s", "-kernel"]
 
 
