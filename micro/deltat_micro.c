@@ -20,7 +20,7 @@ typedef struct dtm_flow flow;
 
 /* --- the layout */
 
-/* The contracts of this part and of dtm_action_of are tried by Frama-C (tests/micro.py). */
+/* The contracts of this part and of dtm_action_of are tried by Frama-C (tests/micro_contracts.py). */
 /*@ requires \valid_read(at + (0 .. 1));
     assigns \nothing;
     ensures \result == at[0] * 256 + at[1]; */

@@ -13,9 +13,8 @@
   relays, in half of which each node has rooms of its own: `deltat audit` says yes to all.
 - sizes: the code for a Cortex-M3 and the memory of a node stay below CEILINGS.
 - big_endian: the vectors, and one trace of 40, by a processor with the other order of octets, under qemu.
-- contracts: the contracts of the pure parts hold (Frama-C, and cvc4 through why3).
 
-Of the last three each is left out, with a line, where its tools are missing. `--count 100000` is the long run.
+Each of the last two is left out, with a line, where its tools are missing. `--count 100000` is the long run.
 
 In tests/all: PROGRAM, 420 s."""
 from __future__ import annotations
@@ -27,7 +26,6 @@ import itertools
 import os
 import pathlib
 import random
-import re
 import shutil
 import subprocess
 import sys
@@ -239,24 +237,7 @@ def big_endian(desk: Desk, given: argparse.Namespace) -> bool:
     return hold(ppc, "--kind", "trace") and alike(desk, "big_endian", drawn(given.seed + 2, max(given.count // 40, 30)), [ppc])
 
 
-def contracts(desk: Desk, given: argparse.Namespace) -> bool:
-    del desk, given
-    missing = [it for it in ("frama-c", "why3", "cvc4") if not shutil.which(it)]
-    if missing:
-        print(f"contracts: there is no {missing[0]}: apt-get install --no-install-recommends frama-c-base why3 cvc4")
-        return True
-    pure = "two,four,failed,dtm_read_deltagram,dtm_read_packet,dtm_action_of"
-    with tempfile.TemporaryDirectory() as home:
-        settings = {**os.environ, "HOME": home}
-        subprocess.run(["why3", "config", "detect"], capture_output=True, check=False, env=settings)
-        words = ["frama-c", "-machdep", "x86_32", "-wp", "-wp-rte", "-wp-prover", "cvc4", "-wp-timeout", "30", "-wp-fct", pure, str(MICRO / "deltat_micro.c")]
-        ran = subprocess.run(words, capture_output=True, text=True, check=False, env=settings, timeout=250)
-    found = re.search(r"Proved goals:\s+(\d+) / (\d+)", ran.stdout)
-    print(f"contracts: {found[0] if found else ran.stdout[-300:] + ran.stderr[-300:]}")
-    return bool(found) and found[1] == found[2] and int(found[2]) > 100
-
-
-TESTS = (vectors, parts, traces, limits, worlds, sizes, big_endian, contracts)
+TESTS = (vectors, parts, traces, limits, worlds, sizes, big_endian)
 
 
 def main() -> int:
