@@ -16,11 +16,20 @@ import sys
 from dataclasses import dataclass
 from typing import Iterator
 
+from sizes import Sizes, sizes
+
 HERE = pathlib.Path(__file__).resolve().parent
 KINDS = ("frames", "schedule", "rounds", "trace", "calls", "audit")
 # what a device may leave out: packets of other nodes, packets that are kept since they came too early, and lines that
 # are refused
 NEEDS = ("relay", "shelf", "refusals")
+# what an implementation may have less of than this project's program (sizes.py)
+LIMITS = {
+    "segments": "more than N outstanding segments in a record",
+    "queue": "more than N datagrams that wait on a link",
+    "records": "more than N flows of one way with a record or unread octets, at one node",
+    "seg": "segments of more than N octets",
+}
 SETUP = """params 1000 3000 200 500 800 100 4096 4096 512 2147483648
 station 1 0
 station 2 0
@@ -104,6 +113,15 @@ class Case:
             found |= {"shelf"} if re.search(rb"(?m)^shelf ", self.given()) else set()
             found |= {"relay"} if relays([it.decode("latin-1").split(" ") for it in lines]) else set()
         return found
+
+    def sizes(self) -> Sizes:
+        """What it asks of an implementation's rooms; nothing where no node acts."""
+        if self.kind == "rounds" and self.word == "replay":
+            # their logs aren't kept; tests/conformance.py computes these of the program's
+            return Sizes(segments=1, queue=1, records=1, seg=100)
+        if self.kind not in ("schedule", "trace"):
+            return Sizes()
+        return sizes(self.given(), self.right() or b"", "relay" in self.needs())
 
     def sum(self) -> str:
         """The sum of a log of rounds."""
@@ -204,6 +222,8 @@ def main() -> int:
     reads.add_argument("--name", default="*", metavar="PATTERN", help="ask the cases with such a name alone, as 'refused-*'")
     reads.add_argument("--without", action="append", choices=NEEDS, default=[], help="leave out the cases that need this; may be given again")
     reads.add_argument("--room", type=int, default=1 << 32, metavar="N", help="leave out the cases whose records hold more than N octets")
+    for name, what in LIMITS.items():
+        reads.add_argument(f"--{name}", type=int, default=1 << 32, metavar="N", help=f"leave out the cases that have {what}")
     reads.add_argument("--seconds", type=float, default=60, metavar="S", help="stop a run after so long (%(default)s)")
     reads.add_argument("--list", action="store_true", help="print the cases and ask none")
     reads.add_argument("--copy", type=pathlib.Path, metavar="FOLDER", help="write the cases into a folder as plain files and ask none")
@@ -211,6 +231,9 @@ def main() -> int:
     given = reads.parse_args()
     chosen = [it for it in cases() if it.kind in (given.kind or KINDS) and fnmatch.fnmatch(it.name.rsplit("/", 1)[-1], given.name)]
     chosen = [it for it in chosen if it.room() <= given.room and not it.needs() & set(given.without)]
+    limits = {name: getattr(given, name) for name in LIMITS if getattr(given, name) < 1 << 32}
+    if limits:
+        chosen = [it for it in chosen if all(getattr(it.sizes(), name) <= most for name, most in limits.items())]
     if given.list:
         print("".join(f"{it.kind} {it.name} {it.word} {it.status}\n" for it in chosen), end="")
         return 0

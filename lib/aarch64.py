@@ -1,12 +1,15 @@
 #!/usr/bin/env python3
 """Makes libdeltat-aarch64.a beside this file: the library for Linux on aarch64, proved for that target.
 
-    lib/aarch64.py
+    lib/aarch64.py                  for a program of Linux: with the C files of lib/, so over malloc
+    lib/aarch64.py --without-heap   for a machine without a system: without these. The program has the three functions of
+                                    lib/heap.c, and memcpy, memmove and memset (examples/bare)
 
 `./build --only dt_c` is for the processor that it runs on, and rattle, which it calls, for others too. So this calls rattle
-on crates/dt_c, over the libraries below it, which `./build` proves first where that wasn't done yet, and adds the C files of
-lib/, compiled by $CC or aarch64-linux-gnu-gcc. Ends with rattle's status, 1 where a crate isn't proved, and 2 where a tool is
-missing."""
+on crates/dt_c, over the libraries below it, which `./build` proves first where that wasn't done yet, and adds the C files
+of lib/, compiled by $CC or aarch64-linux-gnu-gcc. They are compiled before anything is proved, so what is missing for them is
+said at once. Ends with rattle's status, 1 where a crate isn't proved or a file doesn't compile, and 2 where a tool is missing."""
+import argparse
 import importlib.machinery
 import importlib.util
 import os
@@ -43,30 +46,51 @@ def words(out: pathlib.Path, target: str, tools: pathlib.Path | None = None) -> 
     return [*said, "--toolchain", str(tools or toolchain.folder / "toolchain"), "--crate-type", "staticlib", "--target", target, "-o", str(out)]
 
 
+def compiled(compiler: str, folder: str) -> list[pathlib.Path] | None:
+    """The C files of lib/, compiled into that folder; none where one doesn't compile, and the compiler said why."""
+    members = []
+    for source in sorted(HERE.glob("*.c")):
+        members.append(pathlib.Path(folder, f"{source.stem}.o"))
+        flags = ["-O2", "-Wall", "-Wextra", "-Werror", "-fPIC", f"-I{TOP / 'include'}"]
+        if subprocess.run([compiler, *flags, "-c", source, "-o", members[-1]], check=False).returncode:
+            what = f"{compiler} doesn't compile {source.name}; install libc6-dev-arm64-cross, or say --without-heap"
+            print(f"aarch64.py: {what}", file=sys.stderr)
+            return None
+    return members
+
+
+def proved(archive: pathlib.Path) -> tuple[int, pathlib.Path]:
+    """Proves the library for the target into that archive; rattle's status, and the folder of its tools."""
+    proves = words(archive, TARGET)
+    done = subprocess.run(proves, cwd=CRATES / CRATE, capture_output=True, text=True)
+    said = done.stdout + done.stderr
+    print(said if done.returncode else next((it for it in said.splitlines() if it.startswith("logic=")), "proved"))
+    return done.returncode, pathlib.Path(proves[proves.index("--toolchain") + 1])
+
+
 def main() -> int:
+    reads = argparse.ArgumentParser(description=__doc__, formatter_class=argparse.RawDescriptionHelpFormatter)
+    what = "leave out the C files of lib/: the program has the functions of heap.c"
+    reads.add_argument("--without-heap", action="store_true", help=what)
+    given = reads.parse_args()
     compiler = os.environ.get("CC", "aarch64-linux-gnu-gcc")
-    missing = [it for it in (compiler, "rt") if not shutil.which(it)]
+    missing = [it for it in ([] if given.without_heap else [compiler]) + ["rt"] if not shutil.which(it)]
     if missing:
         print(f"aarch64.py: there is no {missing[0]}", file=sys.stderr)
         return 2
     with tempfile.TemporaryDirectory() as folder:
-        archive, members = pathlib.Path(folder, "libdt_c.a"), []
+        members = [] if given.without_heap else compiled(compiler, folder)
+        if members is None:
+            return 1
+        archive = pathlib.Path(folder, "libdt_c.a")
         try:
-            proves = words(archive, TARGET)
+            status, tools = proved(archive)
         except subprocess.CalledProcessError:
             return 1
-        done = subprocess.run(proves, cwd=CRATES / CRATE, capture_output=True, text=True)
-        told = done.stdout + done.stderr
-        if done.returncode:
-            print(told)
-            return done.returncode
-        print(next((it for it in told.splitlines() if it.startswith("logic=")), "proved"))
-        for source in sorted(HERE.glob("*.c")):
-            members.append(pathlib.Path(folder, f"{source.stem}.o"))
-            flags = ["-O2", "-Wall", "-Wextra", "-Werror", "-fPIC", f"-I{TOP / 'include'}"]
-            subprocess.run([compiler, *flags, "-c", source, "-o", members[-1]], check=True)
-        tools = pathlib.Path(proves[proves.index("--toolchain") + 1])
-        subprocess.run([tools / "bin" / "llvm-ar", "rs", archive, *members], check=True, stderr=subprocess.DEVNULL)
+        if status:
+            return status
+        if members:
+            subprocess.run([tools / "bin" / "llvm-ar", "rs", archive, *members], check=True, stderr=subprocess.DEVNULL)
         shutil.move(archive, WANTED)
     print(WANTED)
     return 0

@@ -9,6 +9,9 @@
 - reader: a reader of frames that isn't the program's holds, and reads some 12,900 frames as the program does; so does
   the one in C, with the sanitizers, where there is a compiler, and its parser compiles alone.
 - chosen: what a device may leave out is left out, and nothing else.
+- sizes: the cases that a small device is asked have no more segments, records and waiting datagrams than it, and what is
+  counted of a case is what it is named for.
+- station: the plain station of the tests acknowledges what the vectors say.
 - index: each file of the folders is in the index once, and so is each worked row.
 - lines: each report, fault and flaw of docs/formats.md stands in an answer.
 - copied: the folder that the runner writes has the same inputs and answers.
@@ -141,6 +144,39 @@ def chosen(path: str) -> bool:
             and not left & set().union(*by_need.values()) and bool(small) and all(sizes[it] <= 512 for it in small) and max(sizes.values()) > 512)
 
 
+def sizes(path: str) -> bool:
+    """What is counted of known cases, and what is left of all for a device. The rounds' logs are the program's."""
+    found = {it.name.rsplit("/", 1)[-1]: it.sizes() for it in run.cases() if it.kind in ("schedule", "trace") and it.status != 3}
+    known = {"setup-alone": (0, 0, 0, 100), "three-packets": (3, 1, 1, 100), "full-link": (64, 64, 2, 100), "mixed-1": (12, 48, 2, 60), "mixed-3": (5, 13, 2, 60),
+             "through-a-relay": (2, 64, 1, 100), "each-kind": (0, 1, 1, 8192), "place-of-unread-octets": (0, 1, 2, 100), "gives-fail-512": (2, 1, 1, 100)}
+    wrong = [name for name, numbers in known.items() if found[name] != run.Sizes(*numbers)]
+    rounds = next(it for it in run.cases() if it.kind == "rounds" and it.word == "replay" and it.name == "1000")
+    log = subprocess.run([path, "replay"], input=rounds.given(), stdout=subprocess.PIPE, check=True).stdout
+    same = run.sizes(rounds.given(), log, False) == rounds.sizes()
+    words = ["--segments", "4", "--queue", "1", "--records", "1", "--seg", "128", "--room", "512"]
+    lines = (line.split() for kind in ("schedule", "trace") for line in runner("--list", "--kind", kind, *words)[1])
+    left = {it[1].rsplit("/", 1)[-1] for it in lines if it[3] != "3"}
+    fits = all(it.segments <= 4 and it.queue <= 1 and it.records <= 1 and it.seg <= 128 for name, it in found.items() if name in left)
+    print(f"sizes of {len(found)} cases; a device of 512 octets has {len(left)}; wrong: {wrong}")
+    return not wrong and same and fits and "node-512" in left and "full-link" not in left and "each-kind-512" not in left
+
+
+def station(path: str) -> bool:
+    """What a new record of the plain station has in `told`: the read makes nothing due, and the acknowledgement is late."""
+    del path
+    import station_model as plain
+    params = plain.Params(rcap=150, cap=512)
+    it = plain.Station(1, params, 0, False)
+    flow = plain.Flow(2, 20, 1, 10)
+    it.arrive(10, (50, plain.Frame("data", flow, 999, 0, bytes(60), begin=True, run=True)))
+    it.read(20, flow)
+    it.tick(209)
+    early = [line.word for line in it.log]
+    it.tick(210)
+    answer = (FOLDER / "traces" / "told-of-a-new-record.out").read_text()
+    return "acked" not in early and it.log[-1].word == "acked" and "\n210 1 acked 2:20>1:10 60 150\n" in answer
+
+
 def index(path: str) -> bool:
     del path
     listed = [it for it in run.cases() if it.kind != "rounds"]
@@ -202,7 +238,7 @@ def copied(path: str) -> bool:
 
 def main() -> int:
     path = program()
-    tests = [vectors, spoilt, differences, reader, chosen, index, lines, copied]
+    tests = [vectors, spoilt, differences, reader, chosen, sizes, station, index, lines, copied]
     failed = [it.__name__ for it in tests if not it(path)]
     for name in failed:
         print(f"{name} failed")

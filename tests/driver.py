@@ -4,13 +4,15 @@ writes of them, octet for octet, and end with its status.
 
 `tests/driver.py [PROGRAM] [--count N] [--seed N] [--library ARCHIVE] [--compiler CC] [--under COMMAND] [--keep FOLDER]`.
 The inputs are the scripts and traces of crates/deltat_tests/data that are accepted and ask for no shelf, which the
-library doesn't have, and N random ones: of each three
+library doesn't have, and N random ones: of each four
 
 - one whose datagrams are made up: data, acknowledgements, rendezvous and closing packets of flows to the node, from it
   and past it, with numbers that are the next ones, old ones or any, and octets that are no Deltagram;
 - one that a node heard in a network of three in memory, whose links drop, repeat and reorder (the nodes of the network
   are those of bindings/python);
-- one of these two with other lines: some are left out, doubled, swapped or cut.
+- one that goes through the rows of the receive table: small rooms, data with numbers near the expected one, with and
+  without the data-run flag, that fit or don't, and reads in between;
+- one of these three with other lines: some are left out, doubled, swapped or cut.
 
 Nodes start for the first time or again, clocks go back, leap and stand still, takes and gives fail, an address can't be
 bound, and a parameter is out of its range. One input of 20 is for the driver with the address and undefined-behaviour
@@ -79,16 +81,68 @@ class Numbers:
         return f"params {it.mpl} {it.r} {it.a} {it.rto} {it.probe} {it.seg} {it.cap} {it.rcap} {it.window} {it.run_limit} {it.start}"
 
 
+    def links(self, chance: random.Random) -> dict[int, tuple[int, int]]:
+        """The charge and the pace of each link."""
+        return {1: (chance.choice([0, 0, 1, 50]), chance.choice([0, 0, 0, 5, 100])), 2: (chance.choice([0, 0, 20, 4000]), 0)}
+
+    def size(self, chance: random.Random) -> int:
+        """The octets of a send."""
+        return min(chance.choice([1, 5, self.seg, self.seg + 1, 3 * self.seg, chance.randrange(1, 3000)]), 40 * self.seg, 65_536)
+
+    def step(self, chance: random.Random) -> int:
+        """How far the clock goes from a reading to the next."""
+        return chance.choice([0, 0, 1, 1, 5, 20, 50, self.rto, self.a, self.probe, self.mpl, self.quiet, -3])
+
+    def heard(self, chance: random.Random) -> Made:
+        """What draws the datagrams that come."""
+        return Made(chance, self)
+
+
+class Tight(Numbers):
+    """Parameters of a device: rooms of 512 octets, small segments, odd quanta, times near each other."""
+
+    def __init__(self, chance: random.Random) -> None:
+        self.mpl = chance.choice([2, 10, 100, 1000])
+        self.r, self.a = chance.choice([1, 50, 300, 3000]), chance.choice([1, 5, 20, 200])
+        self.rto = chance.choice([1, 10, 100, 500, 4000])
+        self.probe = min(chance.choice([1, 18, 180, 800]), 3 * self.mpl + self.r + self.a - 1)
+        self.seg = chance.choice([1, 2, 7, 16, 32, 100, 128])
+        self.cap, self.rcap, self.window = (chance.choice([1, 5, 16, 100, 300, 512]) for _ in range(3))
+        self.run_limit = chance.choice([1, 2, 3, 5, 8, 13, 100, 1000, 2**29, 2**29 + 1, 2**31])
+        self.start = chance.choice([0, 7, 2**32 - 1, 2**32 - 3, 2**32 - 100, 2**31 - 2, chance.randrange(2**32)])
+
+    def size(self, chance: random.Random) -> int:
+        return min(chance.choice([1, 1, 2, 3, 5, self.seg, self.seg + 1, 3 * self.seg, chance.randrange(1, 200)]), 512)
+
+
+class Rows(Numbers):
+    """Parameters in which data meet each row of the receive table, and what the rows owe and advertise."""
+
+    def __init__(self, chance: random.Random) -> None:
+        self.mpl, self.r, self.a = chance.choice([40, 100, 1000]), chance.choice([50, 300, 3000]), chance.choice([5, 50, 200])
+        self.rto, self.probe = chance.choice([10, 100, 500]), chance.choice([1, 18, 100])
+        self.seg, self.cap, self.rcap = chance.choice([10, 50, 100]), 512, chance.choice([20, 60, 150, 512])
+        self.window, self.run_limit = chance.choice([20, 512]), chance.choice([8, 100, 2**31])
+        self.start = chance.choice([0, 2**32 - 3])
+
+    def links(self, chance: random.Random) -> dict[int, tuple[int, int]]:
+        return {1: (0, 0), 2: (1, 0)}
+
+    def size(self, chance: random.Random) -> int:
+        return chance.choice([1, 8, self.seg])
+
+    def step(self, chance: random.Random) -> int:
+        return chance.choice([0, 0, 0, 1, 1, self.a - 1, self.a, self.a, self.mpl, self.quiet - 2 * self.mpl])
+
+    def heard(self, chance: random.Random) -> Made:
+        return MadeForRows(chance, self)
+
+
 def faulty(chance: random.Random, line: str) -> str:
     """A line of parameters with one out of its range."""
     words = line.split()
     words[chance.randrange(1, 11)] = chance.choice(["0", "4294967295"])
     return " ".join(words)
-
-
-def links_of(chance: random.Random) -> dict[int, tuple[int, int]]:
-    """The charge and the pace of each link."""
-    return {1: (chance.choice([0, 0, 1, 50]), chance.choice([0, 0, 0, 5, 100])), 2: (chance.choice([0, 0, 20, 4000]), 0)}
 
 
 def script(numbers: str, again: bool, links: dict[int, tuple[int, int]], commands: list[str]) -> list[str]:
@@ -99,10 +153,6 @@ def script(numbers: str, again: bool, links: dict[int, tuple[int, int]], command
 
 
 # --- traces whose datagrams are made up
-
-
-def size_of(chance: random.Random, seg: int) -> int:
-    return min(chance.choice([1, 5, seg, seg + 1, 3 * seg, chance.randrange(1, 3000)]), 40 * seg, 65_536)
 
 
 class Made:
@@ -170,14 +220,27 @@ class Made:
         return bytes(octets)
 
 
-def step(chance: random.Random, numbers: Numbers) -> int:
-    """How far the clock goes from a reading to the next."""
-    return chance.choice([0, 0, 1, 1, 5, 20, 50, numbers.rto, numbers.a, numbers.probe, numbers.mpl, numbers.quiet, -3])
+class MadeForRows(Made):
+    """Data with numbers near the expected one, with the data-run flag and without, of sizes that fit or don't."""
+
+    def number(self, right: int) -> int:
+        return (right + self.chance.choice([0] * 7 + [1, 30, 100, -1, -30, 2**31 - 1, 2**31, 2**31 + 1])) % 2**32
+
+    def data(self, flow: wire.Flow) -> bytes:
+        octets = self.chance.randbytes(self.chance.choice([1, 5, 19, 20, 40, 60, 100]))
+        number = self.number(self.next.get(flow, 0))
+        if flow in self.next and self.chance.random() < 0.7:
+            self.next[flow] = (number + len(octets)) % 2**32
+        flags = self.chance.choice([0, wire.RUN]) | self.chance.choice([0, 0, 0, wire.BEGIN, wire.END])
+        return wire.packet(flow, self.life(), wire.DATA, number, flags, 0, octets)
+
+    def datagram(self) -> bytes:
+        return self.data(self.chance.choice(FLOWS)) if self.chance.random() < 0.8 else super().datagram()
 
 
-def made(chance: random.Random) -> list[str]:
-    numbers = Numbers(chance)
-    heard, again = Made(chance, numbers), chance.random() < 0.3
+def made(chance: random.Random, kind: type[Numbers] = Numbers) -> list[str]:
+    numbers = kind(chance)
+    heard, again = numbers.heard(chance), chance.random() < 0.3
     clock, commands, last, trace = chance.choice([0, 1000, 2**40, 2**62 - 2**34]), [], 0, []
     first = greatest = clock
     for _ in range(chance.choice([3, 10, 30, 60])):
@@ -185,19 +248,19 @@ def made(chance: random.Random) -> list[str]:
         kind = chance.random()
         link = chance.choice([1, 1, 1, 2, 2, 7])
         trace.append("< -" if kind < 0.3 else f"< {link} {heard.datagram().hex()}".rstrip())
-        clock = max(clock + step(chance, numbers), 0)
+        clock = max(clock + numbers.step(chance), 0)
         greatest = max(greatest, clock)
         if chance.random() < 0.4:
             last = max(last, greatest - first + chance.choice([0, 0, 3, -50]))
             commands.append(f"at {last} {command(chance, heard)}")
-    return done(chance, script(numbers.line(), again, links_of(chance), commands), trace, last, (first, greatest - first))
+    return done(chance, script(numbers.line(), again, numbers.links(chance), commands), trace, last, (first, greatest - first))
 
 
 def command(chance: random.Random, heard: Made) -> str:
     if chance.random() < 0.4:
         return f"read {word(chance.choice([*FLOWS, *FLOWS, wire.Flow(8, 1, ME, 1)]))} {chance.choice([1, 3, 100, 65_536])}"
     flow = chance.choice(OUT[:1] + OUT)
-    octets = chance.randbytes(size_of(chance, heard.numbers.seg))
+    octets = chance.randbytes(heard.numbers.size(chance))
     heard.sent[flow] += len(octets)
     return f"send {word(flow)} {chance.choice(['be', 'be', 'b', 'e', '-'])} {octets.hex()}"
 
@@ -230,10 +293,11 @@ class Network:
     """Nodes 1, 2 and 3 in memory, of which the first has a link to each other, and 4, which stands behind 2 and is
     never reached. Keeps what node 1 takes in."""
 
-    def __init__(self, chance: random.Random) -> None:
+    def __init__(self, chance: random.Random, kind: type[Numbers] = Numbers) -> None:
         import deltat
         self.deltat, self.chance, self.at, self.count = deltat, chance, 0, itertools.count()
-        self.numbers, self.again, self.links = Numbers(chance), chance.random() < 0.15, links_of(chance)
+        self.numbers, self.again = kind(chance), chance.random() < 0.15
+        self.links = self.numbers.links(chance)
         it = self.numbers
         params = deltat.Params(it.mpl, it.r, it.a, it.rto, it.probe, it.seg, it.cap, it.rcap, it.window, it.run_limit, it.start)
         mine = [deltat.Link(link, *costs) for link, costs in self.links.items()]
@@ -254,7 +318,7 @@ class Network:
 
     def send(self, number: int) -> None:
         flow = self.chance.choice([it for it in OUT[:2] + FLOWS + PAST[:1] if it.from_node == number])
-        octets, marks = self.chance.randbytes(size_of(self.chance, self.numbers.seg)), self.chance.choice(["be", "be", "b", "e", "-"])
+        octets, marks = self.chance.randbytes(self.numbers.size(self.chance)), self.chance.choice(["be", "be", "b", "e", "-"])
         try:
             way = self.deltat.Flow(flow.from_node, flow.from_port, flow.to_node, flow.to_port)
             self.nodes[number].send(way, octets, "b" in marks, "e" in marks, self.at)
@@ -293,8 +357,8 @@ class Network:
         self.trace += ["< -", f"@ {self.at}"]
 
 
-def heard(chance: random.Random) -> list[str]:
-    run = Network(chance)
+def heard(chance: random.Random, kind: type[Numbers] = Numbers) -> list[str]:
+    run = Network(chance, kind)
     for _ in range(chance.choice([5, 20, 60])):
         run.step()
     return done(chance, script(run.numbers.line(), run.again, run.links, run.commands), run.trace, run.at, (0, run.at))
@@ -322,18 +386,32 @@ def changed(chance: random.Random, lines: list[str]) -> list[str]:
     return [*head, *trace, f"@ {2**62}"]
 
 
-def inputs(seed: int, count: int) -> Iterator[tuple[str, bytes]]:
-    """The inputs, by their names."""
+def rows(chance: random.Random) -> list[str]:
+    return made(chance, Rows)
+
+
+def worked() -> Iterator[tuple[str, bytes]]:
+    """The scripts and traces of the gate that are accepted and ask for no shelf, by their names."""
     for path in sorted(ROWS.glob("*.in")):
         text = path.read_bytes()
         is_refused = path.with_suffix(".out").read_bytes().startswith(b"line ")
         if b"\ntrace\n" in text and not is_refused and not any(line.startswith(b"shelf ") for line in text.split(b"\n")):
             yield path.stem, text
+
+
+def drawn_input(seed: int, number: int) -> tuple[str, bytes]:
+    """The random input of that number, and its name: one of four kinds, in turn."""
+    chance = random.Random(f"{seed} {number}")
+    kind = number % 4
+    lines = changed(chance, chance.choice([made, heard, rows])(chance)) if kind == 3 else (made, heard, rows)[kind](chance)
+    return f"{('made', 'heard', 'rows', 'changed')[kind]}-{seed}-{number}", "".join(f"{it}\n" for it in lines).encode()
+
+
+def inputs(seed: int, count: int) -> Iterator[tuple[str, bytes]]:
+    """The inputs, by their names."""
+    yield from worked()
     for number in range(count):
-        chance = random.Random(f"{seed} {number}")
-        kind = number % 3
-        lines = made(chance) if kind == 0 else heard(chance) if kind == 1 else changed(chance, chance.choice([made, heard])(chance))
-        yield f"{('made', 'heard', 'changed')[kind]}-{seed}-{number}", "".join(f"{it}\n" for it in lines).encode()
+        yield drawn_input(seed, number)
 
 
 def ran(words: list[str], text: bytes) -> tuple[int, bytes]:

@@ -304,7 +304,7 @@ class Station:
         self.receivers[it.flow] = it
         owed = it.has_record and it.due is not None
         if not it.has_record:
-            it.told = 0
+            it.told = self.params.rcap
         it.has_record, it.expected, it.touched = True, frame.number + len(frame.octets), at
         it.due = at if frame.end or owed else at + self.params.a
         it.unread.append(Piece(frame.octets, frame.begin, frame.end, is_new))
