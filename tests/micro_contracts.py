@@ -34,7 +34,7 @@ def main() -> int:
     with tempfile.TemporaryDirectory() as home:
         settings = {**os.environ, "HOME": home}
         subprocess.run(["why3", "config", "detect"], capture_output=True, check=False, env=settings)
-        words = ["frama-c", "-machdep", "x86_32", "-wp", "-wp-rte", "-wp-prover", "cvc4", "-wp-timeout", "10", "-wp-par", "2"]
+        words = ["frama-c", "-machdep", "x86_32", "-wp", "-wp-rte", "-wp-prover", "cvc4", "-wp-timeout", "60", "-wp-par", "2"]
         words += ["-wp-fct", ",".join(PURE), str(SOURCE)]
         try:
             ran = subprocess.run(words, capture_output=True, text=True, check=False, env=settings, timeout=given.seconds)
