@@ -35,7 +35,7 @@ ROUND = "1000 3000 200 500 800 100 65536 65536 65536 2147483648"
 # what tools/params.py allows for the wait in a socket
 SOCKET = 20
 # a serial line has the numbers of its own speed, which it tells, and two nodes in one program need none of a network
-OWN = {"serial.c", "hello.c"}
+OWN = {"serial.c", "hello.c", "hello.py"}
 
 
 def told(words: str) -> list[str]:
@@ -93,6 +93,13 @@ def has_numbers_of(words: str, text: str) -> bool:
     return listed == first and own is not None and int(own[1]) == int(charge.split()[1].rstrip(":")) - SOCKET
 
 
+def computes(words: str, text: str) -> bool:
+    """Whether a program in Python has the library compute the parameters for these words of tools/params.py."""
+    delay, round_trip, *more = words.split()
+    fields = [f"delay_us={delay}_000", f"round_trip_us={round_trip}_000", *(["shelf=" + more[1]] if more else [])]
+    return f"deltat.Params.for_network(deltat.Network({', '.join(fields)}))" in text
+
+
 def examples(numbers: str, charge: str) -> list[tuple[str, bool, str]]:
     """Whether each example has these numbers and this charge."""
     first, room = numbers.split()[:6], numbers.split()[6]
@@ -102,6 +109,9 @@ def examples(numbers: str, charge: str) -> list[tuple[str, bool, str]]:
     cases, shelves = [], 0
     for path in sorted(it for it in (TOP / "examples").iterdir() if it.suffix in charges and it.name not in OWN):
         text = path.read_text()
+        if named := re.search(r"as `tools/params\.py ([^`]*)` prints", text):
+            cases.append((f"the numbers of {path.name}", computes(named[1], text), named[1]))
+            continue
         if named := re.search(r"what `tools/params\.py ([^`]*)` tells", text):
             cases.append((f"the numbers of {path.name}", has_numbers_of(named[1], text), named[1]))
             continue
