@@ -1,0 +1,280 @@
+#!/usr/bin/env python3
+"""The driver over UDP sockets, libdeltat-udp, with the address and undefined-behaviour sanitizers.
+
+`tests/udp.py [CASE ..]`; all cases where none is named. It builds lib/udp with tests/udp/*.c over lib/libdeltat.a and runs
+them as processes over 127.0.0.1, ::1 and `localhost`, under the driver's own wait, poll, epoll and GLib's loop; through a
+relay that loses 1 %; with an end that is killed and started again; in a forked child; and over a path that is too narrow
+for a segment. Ends with 77 where there is no compiler or no archive; a case whose tool is missing says so.
+
+In tests/all: no words, 300 s."""
+import argparse
+import os
+import pathlib
+import re
+import select
+import shutil
+import signal
+import socket
+import subprocess
+import sys
+import tempfile
+import threading
+import time
+from collections.abc import Callable
+from random import Random
+
+from lib import HOST, TOP, free_port, skip
+
+HERE = TOP / "tests" / "udp"
+ARCHIVE = TOP / "lib" / "libdeltat.a"
+SANITIZED = ("-fsanitize=address,undefined", "-fno-sanitize-recover=all")
+FLAGS = ("-std=c11", "-D_GNU_SOURCE", "-Wall", "-Wextra", "-Werror", "-O1", "-g", f"-I{TOP / 'include'}", *SANITIZED)
+# how long a process may take, on a machine that others load
+PATIENCE = 60
+
+
+class Built:
+    """The programs, each built once when it is first asked for."""
+
+    def __init__(self, folder: pathlib.Path) -> None:
+        self.folder = folder
+        self.done: dict[str, pathlib.Path] = {}
+        glib = subprocess.run(["pkg-config", "--cflags", "--libs", "glib-2.0"], capture_output=True, text=True, check=False)
+        self.glib = glib.stdout.split() if glib.returncode == 0 else None
+
+    def __call__(self, name: str) -> str:
+        if name not in self.done:
+            out = self.folder / name
+            more = ["-DWITH_GLIB", *self.glib] if self.glib and name == "ends" else []
+            sources = [HERE / f"{name}.c", *sorted((TOP / "lib" / "udp").glob("*.c"))]
+            words = [shutil.which("gcc") or "clang", *FLAGS, *(str(it) for it in sources), str(ARCHIVE), *more, "-o", str(out)]
+            ran = subprocess.run(words, capture_output=True, text=True, check=False)
+            if ran.returncode:
+                sys.exit(f"{' '.join(words)}\n{ran.stderr}")
+            self.done[name] = out
+        return str(self.done[name])
+
+    def loops(self) -> list[str]:
+        return ["next", "poll", "epoll", *(["glib"] if self.glib else [])]
+
+
+class End:
+    """A process of tests/udp/ends.c that goes on until it is stopped."""
+
+    def __init__(self, program: str, mode: str, loop: str, before: tuple[str, ...] = (), **keys: object) -> None:
+        words = [*before, program, mode, loop, *(f"{key}={value}" for key, value in keys.items())]
+        self.process = subprocess.Popen(words, stdout=subprocess.PIPE, stderr=subprocess.PIPE, text=True)
+        line = self.process.stdout.readline()
+        if not line.startswith("port "):
+            self.process.kill()
+            raise AssertionError(f"{' '.join(words)}: {line}{self.process.communicate()[1]}")
+        self.port = int(line.split()[1])
+
+    def kill(self) -> None:
+        self.process.kill()
+        self.process.communicate()
+
+    def stop(self) -> str:
+        """Asks it to end, and returns what it said."""
+        self.process.send_signal(signal.SIGTERM)
+        return self.ended()
+
+    def ended(self) -> str:
+        try:
+            said, wrong = self.process.communicate(timeout=PATIENCE)
+        except subprocess.TimeoutExpired:
+            self.kill()
+            raise
+        assert self.process.returncode == 0, f"status {self.process.returncode}: {said}{wrong}"
+        return said
+
+
+def figures(text: str) -> dict[str, int]:
+    """The numbers of what an end says, by the word before each."""
+    return {name: int(value) for name, value in re.findall(r"(\w+) (\d+)", text)}
+
+
+class Relay(threading.Thread):
+    """Passes datagrams between two ports, and loses a part of them each way."""
+
+    def __init__(self, loss: float, target: int, seed: int = 1) -> None:
+        super().__init__(daemon=True)
+        self.loss, self.target, self.chance = loss, target, Random(seed)
+        self.near, self.far = (socket.socket(socket.AF_INET, socket.SOCK_DGRAM) for _ in range(2))
+        for it in (self.near, self.far):
+            it.setsockopt(socket.SOL_SOCKET, socket.SO_RCVBUF, 1 << 22)
+            it.bind((HOST, 0))
+        self.client: tuple[str, int] | None = None
+        self.lost = self.passed = 0
+        self.over = False
+
+    @property
+    def near_port(self) -> int:
+        return self.near.getsockname()[1]
+
+    @property
+    def far_port(self) -> int:
+        return self.far.getsockname()[1]
+
+    def run(self) -> None:
+        while not self.over:
+            for it in select.select([self.near, self.far], [], [], 0.05)[0]:
+                octets, source = it.recvfrom(65536)
+                if it is self.near:
+                    self.client = source
+                if self.chance.random() < self.loss:
+                    self.lost += 1
+                    continue
+                self.passed += 1
+                if it is self.near:
+                    self.far.sendto(octets, (HOST, self.target))
+                elif self.client:
+                    self.near.sendto(octets, self.client)
+
+
+def wants(truth: bool, what: str) -> None:
+    if not truth:
+        raise AssertionError(what)
+
+
+# --- cases
+
+
+def loops(built: Built, folder: pathlib.Path) -> str:
+    """Each loop with calls and with long messages, over IPv4, IPv6 and a name of both."""
+    hosts = [{"host": "127.0.0.1"}, {"host": "::1"}, {}]
+    ran = 0
+    for hosting in hosts:
+        for loop in built.loops():
+            for serve, ask, keys in (("serve", "ask", {"count": 300, "many": 8}), ("echo", "say", {"count": 30, "octets": 60000})):
+                ports = free_port(), free_port()
+                address = hosting.get("host", "localhost")
+                server = End(built("ends"), serve, loop, **hosting, port=ports[0], node=2, peer=1, peer_host=address, peer_port=ports[1])
+                client = End(built("ends"), ask, loop, **hosting, port=ports[1], node=1, peer=2, peer_host=address, peer_port=ports[0], **keys)
+                found = figures(client.ended())
+                wants(found.get("answered", found.get("echoed")) == keys["count"], f"{loop} over {address}: {found}")
+                wants(figures(server.stop())["unknown"] == 0, "no datagram was from a stranger")
+                ran += 1
+    return f"{ran} pairs of processes, loops {', '.join(built.loops())}"
+
+
+def switches(built: Built, folder: pathlib.Path) -> str:
+    """Kernels without segments, batches and stamps."""
+    for flags in (1, 2, 3, 4, 7):
+        ports = free_port(), free_port()
+        server = End(built("ends"), "echo", "next", host=HOST, port=ports[0], node=2, peer=1, peer_port=ports[1], flags=flags)
+        client = End(built("ends"), "say", "poll", host=HOST, port=ports[1], node=1, peer=2, peer_port=ports[0], flags=flags, count=20, octets=60000)
+        found = figures(client.ended())
+        wants(found["echoed"] == 20, f"flags {flags}: {found}")
+        alone = flags & 1
+        wants((found["writes"] > found["out"] // 4) == bool(flags & 2 and alone), f"flags {flags}: {found['writes']} writes for {found['out']} datagrams")
+        server.stop()
+    return "5 sets of flags"
+
+
+def every_address(built: Built, folder: pathlib.Path) -> str:
+    """A service at every address answers from the one that it was asked at."""
+    ports = free_port(), free_port()
+    for address in ("127.0.0.5", "127.0.0.1", "::1"):
+        own = "::1" if ":" in address else HOST
+        server = End(built("ends"), "serve", "next", port=ports[0], node=2, peer=1, peer_host=own, peer_port=ports[1])
+        client = End(built("ends"), "ask", "next", host=own, port=ports[1], node=1, peer=2, peer_host=address, peer_port=ports[0], count=20)
+        wants(figures(client.ended())["answered"] == 20, f"asked at {address}")
+        server.stop()
+    return "3 addresses of one socket"
+
+
+def loss(built: Built, folder: pathlib.Path) -> str:
+    """1 % of all datagrams is lost: every call is answered, none is served twice."""
+    server_port, log = free_port(), folder / "loss.log"
+    relay = Relay(0.01, server_port)
+    relay.start()
+    server = End(built("ends"), "serve", "epoll", host=HOST, port=server_port, node=2, peer=1, peer_port=relay.far_port, log=log)
+    client = End(built("ends"), "ask", "next", host=HOST, node=1, peer=2, peer_port=relay.near_port, count=3000, many=16, timeout=20000)
+    found = figures(client.ended())
+    server.stop()
+    relay.over = True
+    served = log.read_text().split()
+    wants(found["answered"] + found["unsure"] == 3000 and found["wrong"] == 0, str(found))
+    wants(found["answered"] >= 2990, f"at 1 % loss nearly all are answered: {found}")
+    wants(len(served) == len(set(served)), "a request was served twice")
+    return f"{found['answered']} of 3000 answered, {relay.lost} of {relay.lost + relay.passed} datagrams lost"
+
+
+def killed(built: Built, folder: pathlib.Path) -> str:
+    """The service is killed and started again, five times, while calls are made."""
+    ports, log = (free_port(), free_port()), folder / "killed.log"
+
+    def service(life: int) -> End:
+        return End(built("ends"), "serve", "next", host=HOST, port=ports[0], node=2, peer=1, peer_port=ports[1], life=life, again=int(life > 1), log=log)
+
+    server = service(1)
+    client = End(built("ends"), "ask", "poll", host=HOST, port=ports[1], node=1, peer=2, peer_port=ports[0], count=30000, many=4, timeout=8000)
+    for life in range(2, 7):
+        time.sleep(0.4)
+        server.kill()
+        server = service(life)
+        time.sleep(2.2)
+    found = figures(client.ended())
+    server.stop()
+    served = log.read_text().split()
+    wants(found["answered"] + found["unsure"] == 30000 and found["wrong"] == 0 and found["declined"] == 0, str(found))
+    wants(len(served) == len(set(served)) and len(served) >= found["answered"], "each answered request is served, and none twice")
+    return f"{found['answered']} answered, {found['unsure']} unsure, {len(served)} served, none twice"
+
+
+def forked(built: Built, folder: pathlib.Path) -> str:
+    """A forked child is refused, and its parent goes on."""
+    ran = subprocess.run([built("forked"), str(free_port()), str(free_port())], capture_output=True, text=True, timeout=PATIENCE, check=False)
+    wants(ran.returncode == 0 and ran.stdout.split() == ["refused", "answered"], ran.stdout + ran.stderr)
+    return "the child is refused"
+
+
+def narrow(built: Built, folder: pathlib.Path) -> str:
+    """A segment that doesn't fit the path is reported; one that fits passes."""
+    if os.geteuid() or not shutil.which("unshare") or not shutil.which("ip"):
+        return "left out: it needs root, unshare and ip"
+    script = """ip link set lo mtu 1300 up
+    {ends} serve next host=127.0.0.1 port=4602 node=2 peer=1 peer_port=4601 >/dev/null &
+    sleep 0.5
+    {ends} ask next host=127.0.0.1 port=4601 node=1 peer=2 peer_port=4602 count=20 octets={octets} seg={seg}
+    kill $!; wait $!"""
+    said = []
+    for octets, seg in ((1400, 1442), (1400, 1242), (60000, 1442), (60000, 1242)):
+        text = script.format(ends=built("ends"), octets=octets, seg=seg)
+        ran = subprocess.run(["unshare", "--net", "bash", "-ec", text], capture_output=True, text=True, timeout=PATIENCE, check=False)
+        wants(ran.returncode == 0, ran.stdout + ran.stderr)
+        said.append(ran.stdout)
+    wants("too big: 1438 octets to 2" in said[0] and "too big: 1472 octets to 2" in said[2], f"too long: {said[0]}{said[2]}")
+    wants(all(figures(it)["answered"] == 20 and figures(it)["too_big"] == 0 for it in (said[1], said[3])), f"short enough: {said[1]}{said[3]}")
+    return "an MTU of 1,300"
+
+
+CASES: list[Callable[[Built, pathlib.Path], str]] = [loops, switches, every_address, loss, killed, forked, narrow]
+
+
+def main() -> int:
+    reads = argparse.ArgumentParser(description=__doc__, formatter_class=argparse.RawDescriptionHelpFormatter)
+    reads.add_argument("cases", nargs="*", metavar="CASE", help=", ".join(it.__name__ for it in CASES))
+    given = reads.parse_args()
+    if not shutil.which("gcc") and not shutil.which("clang"):
+        skip("there is no compiler of C")
+    if not ARCHIVE.exists():
+        skip(f"there is no {ARCHIVE.relative_to(TOP)}: make -C lib")
+    failed = 0
+    with tempfile.TemporaryDirectory(prefix="deltat-udp-") as name:
+        built = Built(pathlib.Path(name))
+        for it in CASES:
+            if given.cases and it.__name__ not in given.cases:
+                continue
+            begun = time.monotonic()
+            try:
+                said = it(built, pathlib.Path(name))
+            except (AssertionError, subprocess.TimeoutExpired) as why:
+                said, failed = f"FAILED: {why}", failed + 1
+            print(f"{it.__name__}: {said} ({time.monotonic() - begun:.1f} s)", flush=True)
+    return 1 if failed else 0
+
+
+if __name__ == "__main__":
+    sys.exit(main())
