@@ -235,7 +235,7 @@ def narrow(built: Built, folder: pathlib.Path) -> str:
     if os.geteuid() or not shutil.which("unshare") or not shutil.which("ip"):
         return "left out: it needs root, unshare and ip"
     script = """ip link set lo mtu 1300 up
-    {ends} serve next host=127.0.0.1 port=4602 node=2 peer=1 peer_port=4601 >/dev/null &
+    {ends} serve next host=127.0.0.1 port=4602 node=2 peer=1 peer_port=4601 seg={seg} >/dev/null &
     sleep 0.5
     {ends} ask next host=127.0.0.1 port=4601 node=1 peer=2 peer_port=4602 count=20 octets={octets} seg={seg}
     kill $!; wait $!"""
