@@ -127,6 +127,10 @@ struct dt_udp_counts {
     uint64_t unknown;                     /* in: from an address that isn't a peer's, or no datagram of this network */
     uint64_t not_sent;                    /* out: late, without an address, or refused by the system */
     uint64_t too_big;                     /* out: longer than the path allows */
+    uint64_t challenges_out;              /* strangers that were asked to prove that they hear */
+    uint64_t challenges_withheld;         /* and that weren't: too many came */
+    uint64_t peers_learnt, peers_moved;   /* by such a proof; from one address to another */
+    uint64_t peers_forgotten;             /* learnt ones that were silent, for others */
     uint64_t clock_steps;                 /* the wall clock was set: until then stamps don't count */
     uint64_t messages_lost;               /* of a node: out of memory */
     uint64_t messages_too_long;           /* of a node: longer than max_message */

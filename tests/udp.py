@@ -3,10 +3,10 @@
 
 `tests/udp.py [CASE ..]`; all cases where none is named. It builds lib/udp with tests/udp/*.c over lib/libdeltat.a and runs
 them as processes over 127.0.0.1, ::1 and `localhost`, under the driver's own wait, poll, epoll and GLib's loop; through a
-relay that loses 1 %; with an end that is killed and started again; in a forked child; and over a path that is too narrow
-for a segment. Ends with 77 where there is no compiler or no archive; a case whose tool is missing says so.
+relay that loses 1 %; with an end that is killed and started again; in a forked child; over a path that is too narrow for a
+segment; and with strangers: ten thousand that come and go, one whose address changes, and forgers. Ends with 77 where there is no compiler or no archive; a case whose tool is missing says so.
 
-In tests/all: no words, 300 s."""
+In tests/all: no words, 600 s."""
 import argparse
 import os
 import pathlib
@@ -42,17 +42,20 @@ class Built:
         glib = subprocess.run(["pkg-config", "--cflags", "--libs", "glib-2.0"], capture_output=True, text=True, check=False)
         self.glib = glib.stdout.split() if glib.returncode == 0 else None
 
-    def __call__(self, name: str) -> str:
-        if name not in self.done:
-            out = self.folder / name
+    def __call__(self, name: str, plain: bool = False) -> str:
+        """The path of a program; `plain`: without sanitizers, where memory is measured."""
+        key = f"{name}-plain" if plain else name
+        if key not in self.done:
+            out = self.folder / key
             more = ["-DWITH_GLIB", *self.glib] if self.glib and name == "ends" else []
             sources = [HERE / f"{name}.c", *sorted((TOP / "lib" / "udp").glob("*.c"))]
-            words = [shutil.which("gcc") or "clang", *FLAGS, *(str(it) for it in sources), str(ARCHIVE), *more, "-o", str(out)]
+            flags = [it for it in FLAGS if not (plain and it in SANITIZED)]
+            words = [shutil.which("gcc") or "clang", *flags, *(str(it) for it in sources), str(ARCHIVE), *more, "-o", str(out)]
             ran = subprocess.run(words, capture_output=True, text=True, check=False)
             if ran.returncode:
                 sys.exit(f"{' '.join(words)}\n{ran.stderr}")
-            self.done[name] = out
-        return str(self.done[name])
+            self.done[key] = out
+        return str(self.done[key])
 
     def loops(self) -> list[str]:
         return ["next", "poll", "epoll", *(["glib"] if self.glib else [])]
@@ -115,6 +118,13 @@ class Relay(threading.Thread):
     @property
     def far_port(self) -> int:
         return self.far.getsockname()[1]
+
+    def rebind(self) -> None:
+        """From now on what is passed on comes from another port, as behind a NAT that forgot the client."""
+        old, self.far = self.far, socket.socket(socket.AF_INET, socket.SOCK_DGRAM)
+        self.far.bind((HOST, 0))
+        time.sleep(0.1)
+        old.close()
 
     def run(self) -> None:
         while not self.over:
@@ -250,7 +260,136 @@ def narrow(built: Built, folder: pathlib.Path) -> str:
     return "an MTU of 1,300"
 
 
-CASES: list[Callable[[Built, pathlib.Path], str]] = [loops, switches, every_address, loss, killed, forked, narrow]
+def learnt(built: Built, folder: pathlib.Path) -> str:
+    """Ten thousand clients that nobody listed come, ask and go: all are answered, none twice, in bounded memory."""
+    log = folder / "learnt.log"
+    server = End(built("ends", plain=True), "serve", "next", host=HOST, node=2, learns=6000, r=2000, log=log)
+
+    def resident() -> int:
+        found = re.search(r"VmRSS:\s+(\d+)", pathlib.Path(f"/proc/{server.process.pid}/status").read_text())
+        return int(found[1])
+
+    said, sizes = {"answered": 0, "unsure": 0, "wrong": 0}, []
+    for first in range(1000, 11000, 2000):
+        words = [built("crowd", plain=True), str(server.port), str(first), "2000", "50"]
+        ran = subprocess.run(words, capture_output=True, text=True, timeout=2 * PATIENCE, check=True)
+        for key, value in figures(ran.stdout).items():
+            said[key] += value
+        sizes.append(resident())
+        time.sleep(1.5)
+    found = figures(server.stop())
+    served = log.read_text().split()
+    wants(said == {"answered": 10000, "unsure": 0, "wrong": 0}, str(said))
+    wants(len(served) == len(set(served)) == 10000, f"{len(served)} requests were served, {len(set(served))} of them different")
+    wants(found["learnt"] >= 10000 and found["forgotten"] >= 4000, str(found))
+    wants(sizes[-1] - sizes[2] < 6144, f"the service grew: {sizes} KiB")
+    return f"10,000 clients, {sizes[0]} to {sizes[-1]} KiB resident, {found['challenges']} challenges"
+
+
+def rebinds(built: Built, folder: pathlib.Path) -> str:
+    """A client's address changes five times: it is heard again within a second each time."""
+    server = End(built("ends"), "serve", "next", host=HOST, node=2, learns=10)
+    relay = Relay(0.0, server.port)
+    relay.start()
+    log = folder / "rebinds.log"
+    client = End(built("ends"), "ask", "next", host=HOST, node=1, peer=2, peer_port=relay.near_port, count=4000, many=1, timeout=20000, pause=1, log=log)
+    for _ in range(5):
+        time.sleep(1.2)
+        relay.rebind()
+    found = figures(client.ended())
+    relay.over = True
+    moved = figures(server.stop())
+    wants(found["answered"] == 4000 and found["unsure"] == 0, str(found))
+    wants(moved["learnt"] == 1 and moved["moved"] == 5, str(moved))
+    wants(found["longest"] < 1000, f"a call took {found['longest']} ms")
+    return f"5 addresses, the longest call took {found['longest']} ms"
+
+
+class Stranger:
+    """A socket that speaks as a node, octet by octet."""
+
+    def __init__(self, server: int, node: int, key: int = 1) -> None:
+        self.node, self.key = node, key
+        self.socket = socket.socket(socket.AF_INET, socket.SOCK_DGRAM)
+        self.socket.connect((HOST, server))
+        self.socket.settimeout(0.1)
+        self.sent = self.heard = 0
+        self.number = 0
+
+    def frame(self, port: int = 20, flags: int = 7, kind: int = 1) -> None:
+        """A request to node 2, the next of its flow."""
+        payload = (1 << 32 | self.number).to_bytes(8, "big") + b"hello"
+        packet = bytes([kind, flags if self.number == 0 else flags & 6]) + (10).to_bytes(2, "big") + port.to_bytes(2, "big")
+        packet += (13 * self.number).to_bytes(4, "big") + bytes(4) + payload
+        header = bytes([1, 1]) + len(packet).to_bytes(2, "big") + (482).to_bytes(4, "big") + self.node.to_bytes(4, "big") + (2).to_bytes(4, "big")
+        self.sent += self.socket.send(header + packet)
+
+    def proof(self, challenge: bytes, node: int | None = None) -> None:
+        ends = (self.node if node is None else node).to_bytes(4, "big") + (2).to_bytes(4, "big")
+        self.socket.send(bytes([208, 1, 2, challenge[3]]) + ends + challenge[12:20] + self.key.to_bytes(8, "big"))
+
+    def answers(self) -> list[bytes]:
+        """What comes until nothing does."""
+        found = []
+        try:
+            while True:
+                found.append(self.socket.recv(65536))
+                self.heard += len(found[-1])
+        except TimeoutError:
+            return found
+
+    def challenged(self) -> bytes:
+        """The challenge that answers a frame, which is all that does."""
+        self.frame()
+        found = self.answers() or self.answers()
+        wants(len(found) == 1 and found[0][:3] == bytes([208, 1, 1]) and len(found[0]) == 28, f"no challenge: {found}")
+        return found[0]
+
+    def is_heard(self) -> bool:
+        """Whether a frame of it is answered by frames."""
+        self.frame()
+        self.number += 1
+        return any(it[0] in (1, 2) for it in self.answers())
+
+
+def forgers(built: Built, folder: pathlib.Path) -> str:
+    """Strangers who don't hear at their address, who aren't who they say, or who speak to closed ports."""
+    log, own = folder / "forgers.log", socket.socket(socket.AF_INET, socket.SOCK_DGRAM)
+    own.bind((HOST, 0))
+    server = End(built("ends"), "serve", "poll", host=HOST, node=2, learns=10, peer=77, peer_port=own.getsockname()[1], log=log)
+    one, other = Stranger(server.port, 500), Stranger(server.port, 500, key=2)
+    for _ in range(300):
+        one.frame()
+    answers = one.answers()
+    wants(answers and all(it[:3] == bytes([208, 1, 1]) for it in answers) and one.heard <= one.sent, "a stranger is answered by challenges, no longer than what it sent")
+    challenge = one.challenged()
+    one.proof(challenge[:12] + bytes([challenge[12] ^ 1]) + challenge[13:])
+    one.challenged()
+    other.proof(challenge)  # (a cookie is of an address)
+    other.challenged()
+    one.proof(challenge)
+    one.frame(kind=9)
+    one.frame(flags=255)
+    wants(log.read_text() == "" and one.answers() == [], "junk is passed in, and isn't answered")
+    wants(one.is_heard(), "who has proved it is heard")
+    other.proof(other.challenged())
+    other.challenged()  # (the number is another opening's, which isn't silent)
+    wants(one.is_heard(), "the first one is still heard")
+    moved = Stranger(server.port, 500, key=1)
+    moved.proof(moved.challenged())
+    moved.number = one.number
+    wants(moved.is_heard() and one.challenged(), "one whose key is the same has moved")
+    configured, closed = Stranger(server.port, 77), Stranger(server.port, 501)
+    configured.proof(challenge, 77)
+    configured.frame()
+    closed.frame(port=21)
+    wants(configured.answers() == [] and closed.answers() == [], "a configured number and a closed port aren't answered")
+    found = figures(server.stop())
+    wants(found["learnt"] == 1 and found["moved"] == 1 and len(log.read_text().split()) == 3, f"{found}")
+    return f"{found['challenges']} challenges"
+
+
+CASES: list[Callable[[Built, pathlib.Path], str]] = [loops, switches, every_address, loss, killed, forked, narrow, learnt, rebinds, forgers]
 
 
 def main() -> int:

@@ -16,12 +16,13 @@ uint8_t dt_udp_peer(dt_udp *u, uint32_t node, const char *host, const char *port
     struct peer *peer = status == DT_DONE ? dtu_peers_find(&u->peers, node) : NULL;
     if (status == DT_DONE && peer == NULL) peer = dtu_peers_add(&u->peers, node);
     if (peer == NULL) return dtu_refuse(error, status == DT_DONE ? DT_NO_MEMORY : status, 0, "node %u isn't added: out of memory", node);
+    dtu_strangers_configured(u, peer);
     memcpy(peer->others, found.others, sizeof peer->others);
     peer->choices = found.choices;
     peer->choice = 0;
     peer->at = found.at;
     peer->own.family = 0;
-    peer->heard = false;
+    peer->heard = peer->answered = false;
     peer->configured = true;
     return DT_DONE;
 }
@@ -92,6 +93,7 @@ struct dt_made dt_udp_call(dt_udp *u, const struct dt_flow *flow, const void *oc
     if (status != DT_DONE) return (struct dt_made){.status = status};
     struct iovec payload = payload_of(octets, len);
     struct dt_made made = dtu_core_call(&u->core, begins(u), flow, &payload, timeout_ms);
+    if (made.status == DT_DONE) u->open_calls++;
     dtu_judge(u);
     return made;
 }

@@ -132,8 +132,15 @@ uint8_t dtu_core_forget(struct core *core, uint64_t now, const struct dt_token *
     return kept(core, dt_forget(core->service, now, token));
 }
 
+static struct dt_counts counts_of(struct core *core) {
+    return core->node ? dt_counts(core->node) : dt_service_counts(core->service);
+}
+
+/* How many octets of other nodes were accepted. */
+uint64_t dtu_core_accepted(struct core *core) { return counts_of(core).accepted; }
+
 /* How many octets were sent and are neither acknowledged nor uncertain. */
 uint64_t dtu_core_outstanding(struct core *core) {
-    struct dt_counts it = core->node ? dt_counts(core->node) : dt_service_counts(core->service);
+    struct dt_counts it = counts_of(core);
     return it.status == DT_DONE ? it.taken - it.settled - it.uncertain : 0;
 }

@@ -154,6 +154,7 @@ static bool next_of_service(dt_udp *u) {
     }
     u->event.kind = it.kind == DT_ANSWERED ? DT_UDP_EVENT_ANSWER : DT_UDP_EVENT_UNSURE;
     u->event.call = it.number;
+    u->open_calls -= u->open_calls > 0;
     return true;
 }
 

@@ -43,7 +43,8 @@ static bool set_timer(dt_udp *u, uint64_t at) {
 
 /* When the driver wants to be called, at the latest. */
 static uint64_t wake_of(dt_udp *u, uint64_t now) {
-    uint64_t wake = dtu_core_wake(&u->core);
+    uint64_t wake = dtu_core_wake(&u->core), greets = dtu_strangers_wake(u);
+    if (greets < wake) wake = greets;
     if (!u->stamps && wake > now + BLIND_WAKE_MS) wake = now + BLIND_WAKE_MS;
     return wake > now ? wake : now + 1; /* (a node that was called late may name a time that is past, at which nothing is due) */
 }
@@ -70,6 +71,7 @@ void dtu_loop_turn(dt_udp *u, int wait_ms) {
     }
     dtu_read_socket(u, wait_ms);
     uint64_t at = u->turned_at = dtu_clock_ms();
+    dtu_strangers_greet(u, at);
     if (at <= u->ticked_at || dtu_core_wake(&u->core) > at || u->failed) return;
     u->ticked_at = at;
     dtu_write_made(u, at);

@@ -95,6 +95,7 @@ static uint8_t open_all(dt_udp *u, const struct dt_udp_options *options, struct 
     if (dtu_peers_open(&u->peers) != DT_DONE || dtu_events_open(u) != DT_DONE) return dtu_refuse(error, DT_NO_MEMORY, 0, "out of memory");
     if ((status = dtu_socket_open(u, error)) != DT_DONE) return status;
     if (dtu_reading_open(u) != DT_DONE || dtu_writing_open(u) != DT_DONE) return dtu_refuse(error, DT_NO_MEMORY, 0, "out of memory");
+    if ((status = dtu_strangers_open(u)) != DT_DONE) return dtu_refuse(error, status, errno, "no memory, or no random octets");
     u->opened = dtu_clock_reading();
     dtu_clock_was_empty(u, &u->opened);
     u->ahead_ns = u->opened.wall - u->opened.boot;
@@ -120,6 +121,7 @@ void dt_udp_close(dt_udp *u) {
     dtu_events_close(u);
     dtu_reading_close(u);
     dtu_writing_close(u);
+    dtu_strangers_close(u);
     dtu_peers_close(&u->peers);
     dtu_loop_close(u);
     free(u->ports.list);

@@ -64,6 +64,19 @@ struct peer *dtu_peers_add(struct peers *peers, uint32_t node) {
     return it;
 }
 
+/* Removes a peer and frees it. */
+void dtu_peers_remove(struct peers *peers, struct peer *peer) {
+    struct peer **link = bucket_of(peers, peer->node);
+    while (*link != peer) link = &(*link)->next;
+    *link = peer->next;
+    peers->count--;
+    if (peer->too_big) { /* (seldom, so the list may be gone through) */
+        for (link = &peers->too_big; *link != peer;) link = &(*link)->next_too_big;
+        *link = peer->next_too_big;
+    }
+    free(peer);
+}
+
 /* Keeps that a datagram didn't fit the path, until it is reported: once for each peer. */
 void dtu_peers_note_too_big(struct peers *peers, struct peer *peer, uint32_t len) {
     if (peer->too_big == 0) {

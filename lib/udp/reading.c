@@ -15,16 +15,6 @@ enum {
     BLIND_MS = 4           /* without stamps a look waits no longer, since a datagram may have waited as long as the look */
 };
 
-/* A datagram that arrived. */
-struct arrival {
-    const uint8_t *octets;
-    size_t len;
-    const struct address *from;
-    struct own_address own;
-    uint32_t waited_ms;
-    uint64_t at;
-};
-
 /* What control messages say of one read. */
 struct label {
     int64_t stamp_ns;       /* or -1 */
@@ -87,7 +77,7 @@ static struct label label_of(struct msghdr *head, size_t len) {
 }
 
 /* Whether a datagram that came from there is of the peer. Of the addresses of its name the one that answers is kept. */
-static bool is_from(struct peer *peer, const struct address *from) {
+bool dtu_is_from(struct peer *peer, const struct address *from) {
     if (peer->at.len && dtu_same_address(&peer->at, from)) return true;
     if (peer->heard) return false;
     for (uint8_t i = 0; i < peer->choices; i++)
@@ -98,23 +88,36 @@ static bool is_from(struct peer *peer, const struct address *from) {
     return false;
 }
 
-/* Passes one datagram in. What of it becomes readable is read at once, so that acknowledgements say how much room there
- * is. (A trailer behind the frame would be taken off here, and its age told in `waited_ms`.) */
-static void pass_in(dt_udp *u, const struct arrival *it) {
-    struct peer *peer = it->len < HEADER ? NULL : dtu_peers_find(&u->peers, number_at(it->octets + MADE_BY));
+/* Passes one datagram in; whether the node took it. What of it becomes readable is read at once, so that acknowledgements
+ * say how much room there is. (A trailer behind the frame would be taken off here, and its age told in `waited_ms`.) */
+bool dtu_pass_in(dt_udp *u, const struct arrival *it) {
+    dtu_write_made(u, it->at);
+    bool taken = dtu_core_receive(&u->core, it->at, it->octets, it->len, it->waited_ms) == DT_DONE;
+    if (taken) u->heard_at = it->at;
+    dtu_judge(u);
+    dtu_events_collect(u, it->at);
+    return taken;
+}
+
+/* Passes a datagram in if it came from its maker's address. */
+static void receive(dt_udp *u, struct arrival *it) {
     u->counts.datagrams_in++;
-    if (peer == NULL || !is_from(peer, it->from)) {
+    if (dtu_is_control(u, it)) return;
+    if (it->len < HEADER) {
         u->counts.unknown++;
         return;
     }
-    dtu_write_made(u, it->at);
-    if (dtu_core_receive(&u->core, it->at, it->octets, it->len, it->waited_ms) == DT_DONE) {
-        peer->heard = true;
-        peer->heard_at = u->heard_at = it->at;
-        if (it->own.family) peer->own = it->own;
+    it->maker = number_at(it->octets + MADE_BY);
+    struct peer *peer = dtu_peers_find(&u->peers, it->maker);
+    if (peer == NULL || !dtu_is_from(peer, it->from)) {
+        dtu_stranger(u, it);
+        return;
     }
-    dtu_judge(u);
-    dtu_events_collect(u, it->at);
+    if (!dtu_pass_in(u, it)) return;
+    peer->heard = peer->answered = true;
+    peer->heard_at = it->at;
+    if (it->own.family) peer->own = it->own;
+    dtu_strangers_heard(u, peer);
 }
 
 /* Passes in what one read brought: one datagram, or several of one length that the system joined. */
@@ -125,6 +128,7 @@ static void take(dt_udp *u, unsigned i, const struct reading *at) {
     struct label label = label_of(head, len);
     struct arrival it = {.from = &u->in.from[i], .own = label.own, .at = dtu_clock_ms_of(at)};
     it.waited_ms = dtu_clock_waited(u, at, head->msg_flags & MSG_CTRUNC ? -1 : label.stamp_ns);
+    u->in.from[i].len = head->msg_namelen;
     if (len == 0 || head->msg_flags & MSG_TRUNC) {
         u->counts.datagrams_in++;
         u->counts.unknown++;
@@ -133,7 +137,7 @@ static void take(dt_udp *u, unsigned i, const struct reading *at) {
     for (size_t done = 0; done < len; done += it.len) {
         it.octets = octets + done;
         it.len = len - done < label.segment ? len - done : label.segment;
-        pass_in(u, &it);
+        receive(u, &it);
     }
 }
 

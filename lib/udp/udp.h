@@ -4,6 +4,7 @@
  *   open.c      options, opening, closing
  *   sockets.c   the socket and its options, addresses of names
  *   peers.c     the table of peers
+ *   strangers.c peers that are learnt
  *   reading.c   datagrams from the socket to the node
  *   writing.c   datagrams from the node to the socket
  *   clocks.c    readings of the clocks, and how long a datagram waited in the socket
@@ -58,13 +59,19 @@ struct own_address {
 
 struct peer {
     struct peer *next; /* in its bucket */
-    struct peer *next_too_big;
+    struct peer *next_too_big, *next_prover;
+    struct peer *older, *newer; /* of learnt peers: in the order in which they were heard */
     struct address at; /* the one that is in use */
     struct own_address own;
-    uint64_t heard_at; /* when a datagram of it was last passed in */
+    uint64_t heard_at;  /* when a datagram of it was last passed in */
+    uint64_t sent_at;   /* when one was last sent to it */
+    uint64_t proved_at; /* when it last asked us to prove our address */
+    uint64_t key;       /* of a learnt peer: of its opening */
     uint32_t node, too_big; /* too_big: octets of a datagram that didn't fit the path, to be reported, or 0 */
     bool configured;        /* by dt_udp_peer */
-    bool heard;             /* from `at` */
+    bool heard;             /* from `at`: no other address of its name is tried */
+    bool answered;          /* a datagram of it was passed in */
+    bool is_prover;         /* it asked us for a proof once */
     uint8_t choice, choices;
     struct address others[MAX_ADDRESSES]; /* the addresses of its name, `choices` in number */
 };
@@ -74,6 +81,46 @@ struct peers {
     struct peer *too_big; /* those with something to report */
     size_t count, size;   /* size: a power of 2 */
     uint64_t key;         /* odd and random, so that nobody chooses numbers of one bucket */
+};
+
+/* A stranger that has shown that it hears at an address. */
+struct proof {
+    struct address from; /* len 0: none */
+    uint32_t node;
+    uint64_t key, at;
+};
+
+enum { PROOFS = 1024 };
+
+struct strangers {
+    struct peer oldest;    /* the head of the ring of learnt peers: `newer` is the one that was silent for longest */
+    struct proof *proofs;  /* PROOFS of them, each at a place that its address decides; null: none is learnt */
+    uint64_t secret[2];    /* of the cookies */
+    uint64_t key;          /* of this opening */
+    uint64_t burst_at;
+    struct peer *provers;  /* configured peers that asked us for a proof */
+    uint64_t greeted_at;
+    uint32_t burst, count; /* challenges since burst_at; peers that are learnt now */
+    uint32_t numbers;      /* that were ever learnt */
+};
+
+/* The last frame to a peer that hasn't answered yet. */
+struct held {
+    uint32_t to;
+    size_t len;
+    uint64_t made_at;
+    uint8_t octets[DT_MOST_FRAME];
+};
+
+/* A datagram that arrived. */
+struct arrival {
+    const uint8_t *octets;
+    size_t len;
+    const struct address *from;
+    struct own_address own;
+    uint32_t maker; /* the node that its header names */
+    uint32_t waited_ms;
+    uint64_t at;
 };
 
 /* One end of the protocol: exactly one of `node` and `service` is open. */
@@ -137,6 +184,8 @@ struct dt_udp {
     struct core core;
     struct peers peers;
     struct ports ports;
+    struct strangers strangers;
+    struct held held;
     struct queue queue;
     struct reports reports;
     struct message *lent;  /* what the last event points to */
@@ -154,6 +203,7 @@ struct dt_udp {
     bool stepped;          /* the wall clock was set since `empty` */
     bool interrupted;      /* a signal ended the last wait */
     bool unread;           /* messages stay in the node, since too many octets wait for dt_udp_next */
+    uint64_t open_calls;   /* whose end wasn't handed out */
     uint64_t heard_at;     /* when a datagram was last passed in */
     uint64_t ticked_at;    /* when the node last did what is due */
     uint64_t turned_at;    /* when the socket was last looked at */
@@ -185,6 +235,7 @@ struct dt_made dtu_core_call(struct core *core, uint64_t now, const struct dt_fl
 struct dt_replied dtu_core_reply(struct core *core, uint64_t now, const struct dt_token *token, const struct iovec *octets);
 uint8_t dtu_core_forget(struct core *core, uint64_t now, const struct dt_token *token);
 uint64_t dtu_core_outstanding(struct core *core);
+uint64_t dtu_core_accepted(struct core *core);
 bool dtu_core_is_known(void);
 uint64_t dtu_core_quiet_ms(const struct dt_params *params);
 
@@ -208,6 +259,18 @@ struct peer *dtu_peers_add(struct peers *peers, uint32_t node);
 void dtu_peers_note_too_big(struct peers *peers, struct peer *peer, uint32_t len);
 struct peer *dtu_peers_next_too_big(struct peers *peers);
 
+void dtu_peers_remove(struct peers *peers, struct peer *peer);
+
+/* --- strangers.c */
+uint8_t dtu_strangers_open(dt_udp *u);
+void dtu_strangers_close(dt_udp *u);
+void dtu_strangers_heard(dt_udp *u, struct peer *peer);
+void dtu_strangers_configured(dt_udp *u, struct peer *peer);
+uint64_t dtu_strangers_wake(const dt_udp *u);
+void dtu_strangers_greet(dt_udp *u, uint64_t at);
+bool dtu_is_control(dt_udp *u, struct arrival *arrival);
+void dtu_stranger(dt_udp *u, const struct arrival *arrival);
+
 /* --- clocks.c */
 uint64_t dtu_clock_ms(void);
 uint64_t dtu_clock_ms_of(const struct reading *reading);
@@ -222,12 +285,16 @@ uint32_t dtu_clock_waited(const dt_udp *u, const struct reading *after, int64_t 
 uint8_t dtu_reading_open(dt_udp *u);
 void dtu_reading_close(dt_udp *u);
 void dtu_read_socket(dt_udp *u, int wait_ms);
+bool dtu_is_from(struct peer *peer, const struct address *from);
+bool dtu_pass_in(dt_udp *u, const struct arrival *arrival);
 
 /* --- writing.c */
 uint8_t dtu_writing_open(dt_udp *u);
 void dtu_writing_close(dt_udp *u);
 void dtu_write_made(dt_udp *u, uint64_t at);
 void dtu_write_all(dt_udp *u);
+void dtu_write_control(dt_udp *u, const struct arrival *to, const uint8_t *octets, size_t len);
+void dtu_write_held(dt_udp *u, const struct peer *peer);
 
 /* --- loop.c */
 void dtu_loop_close(dt_udp *u);

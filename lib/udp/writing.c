@@ -98,6 +98,9 @@ static bool gather(dt_udp *u, unsigned *parts) {
 
 /* --- sending */
 
+/* Whether a frame that was made by this reading mustn't leave any more. */
+static bool is_late(uint64_t made_at) { return dtu_clock_ms() - made_at > LATE_MS; }
+
 enum { FLAGS = MSG_DONTWAIT | MSG_NOSIGNAL };
 
 /* Waits until the socket takes more, at most until what waits is late. */
@@ -107,8 +110,20 @@ static bool waits_for_room(dt_udp *u) {
     return poll(&(struct pollfd){.fd = u->socket, .events = POLLOUT}, 1, (int)(LATE_MS - since)) > 0;
 }
 
-static void sent(dt_udp *u, struct peer *peer, size_t datagrams) {
-    u->counts.datagrams_out += datagrams;
+/* Keeps a frame for a peer that hasn't answered yet: it may ask for a proof first. */
+static void hold(dt_udp *u, const struct peer *peer, const struct iovec *frame) {
+    u->held.to = peer->node;
+    u->held.len = frame->iov_len;
+    u->held.made_at = u->out.made_at;
+    memcpy(u->held.octets, frame->iov_base, frame->iov_len);
+}
+
+static void sent(dt_udp *u, unsigned i) {
+    struct peer *peer = u->out.peers[i];
+    const struct msghdr *head = &u->out.heads[i].msg_hdr;
+    u->counts.datagrams_out += head->msg_iovlen;
+    peer->sent_at = u->out.made_at;
+    if (!peer->answered && head->msg_iov->iov_len <= sizeof u->held.octets) hold(u, peer, head->msg_iov);
     if (!peer->heard && peer->choices > 1) { /* the next one goes to another address of its name */
         peer->choice = (uint8_t)((peer->choice + 1) % peer->choices);
         peer->at = peer->others[peer->choice];
@@ -157,13 +172,34 @@ static void send_heads(dt_udp *u) {
     for (unsigned i = 0; i < u->out.count; i++) set_controls(u, i);
     for (unsigned i = 0; i < u->out.count;) {
         int took = send_some(u, i), why = errno;
-        for (; took > 0; took--, i++) sent(u, u->out.peers[i], u->out.heads[i].msg_hdr.msg_iovlen);
+        for (; took > 0; took--, i++) sent(u, i);
         if (took == 0) continue;
         if ((why == EAGAIN || why == EWOULDBLOCK || why == EINTR) && waits_for_room(u)) continue;
         if (u->out.heads[i].msg_hdr.msg_iovlen > 1) send_singly(u, i, why);
         else lost(u, u->out.peers[i], u->out.heads[i].msg_hdr.msg_iov->iov_len, why);
         i++;
     }
+}
+
+/* Sends one of the driver's own datagrams to where one came from. It may be lost. */
+void dtu_write_control(dt_udp *u, const struct arrival *to, const uint8_t *octets, size_t len) {
+    _Alignas(struct cmsghdr) char control[CONTROL_ROOM] = {0};
+    struct address address = *to->from;
+    struct iovec part = {(void *)(uintptr_t)octets, len};
+    struct msghdr head = {.msg_name = &address.name, .msg_namelen = address.len, .msg_iov = &part, .msg_iovlen = 1, .msg_control = control};
+    if (u->every_address) add_own_address(&head, &to->own);
+    if (head.msg_controllen == 0) head.msg_control = NULL;
+    u->counts.writes++;
+    if (sendmsg(u->socket, &head, FLAGS) < 0) u->counts.not_sent++;
+}
+
+/* Sends the last frame to a peer once more, if it isn't late yet: a repeat, which does no harm. */
+void dtu_write_held(dt_udp *u, const struct peer *peer) {
+    struct held *it = &u->held;
+    if (it->len == 0 || it->to != peer->node || is_late(it->made_at)) return;
+    u->counts.writes++;
+    if (sendto(u->socket, it->octets, it->len, FLAGS, &peer->at.name.any, peer->at.len) >= 0) u->counts.datagrams_out++;
+    it->len = 0;
 }
 
 /* Puts every frame that waits on the wire. What is late counts as lost: its life says nothing of the time that it waited
@@ -173,7 +209,7 @@ void dtu_write_all(dt_udp *u) {
     unsigned parts;
     for (bool more = true; more;) {
         more = gather(u, &parts);
-        if (parts > 0 && dtu_clock_ms() - u->out.made_at > LATE_MS) u->counts.not_sent += parts;
+        if (parts > 0 && is_late(u->out.made_at)) u->counts.not_sent += parts;
         else send_heads(u);
     }
     u->out.made_at = NEVER;

@@ -7,7 +7,7 @@
  *   ends say LOOP KEY=VALUE..         sends `count` messages, one after another's echo, and drains; `echoed N wrong N`
  *
  * LOOP is next (dt_udp_next waits), poll, epoll, or glib (compiled with -DWITH_GLIB). Keys: host port node life again peer
- * peer_host peer_port learns state count octets many flags seg timeout log (a file to which the number of each request that
+ * peer_host peer_port learns state count octets many flags seg r timeout pause (ms after each call) log (a file to which the number of each request that
  * is served is appended). */
 #include "deltat_udp.h"
 #include <errno.h>
@@ -33,7 +33,7 @@ struct end {
     const char *mode;
     uint32_t node, peer, count, octets, many;
     uint32_t made, answered, unsure, wrong, declined, under_way;
-    uint64_t calls[4096];
+    uint64_t calls[4096], made_at[4096], longest; /* longest: the ms that an answer took at most */
     bool over;
     FILE *log;
     struct dt_flow back; /* where an echo goes for which there was no room yet: `len` octets */
@@ -62,6 +62,12 @@ static void die(const char *what) {
     exit(1);
 }
 
+static uint64_t milliseconds(void) {
+    struct timespec it;
+    clock_gettime(CLOCK_MONOTONIC, &it);
+    return (uint64_t)it.tv_sec * 1000 + (uint64_t)it.tv_nsec / 1000000;
+}
+
 /* --- what is done with an event */
 
 static void fill(struct end *it, uint32_t call, size_t len) {
@@ -82,7 +88,7 @@ static void make_calls(struct end *it) {
         fill(it, it->made, it->octets);
         struct dt_made made = dt_udp_call(it->udp, &flow, it->room, it->octets, number(it, "timeout", 5000));
         if (made.status == DT_FULL || made.status == DT_QUIET || made.status == DT_MANY) break;
-        if (made.status == DT_DONE) it->calls[it->made % 4096] = made.number, it->under_way++;
+        if (made.status == DT_DONE) it->calls[it->made % 4096] = made.number, it->made_at[it->made % 4096] = milliseconds(), it->under_way++;
         else it->declined++;
         it->made++;
     }
@@ -121,8 +127,11 @@ static void ended(struct end *it, const struct dt_udp_event *event) {
     uint32_t call = UINT32_MAX;
     for (uint32_t i = it->made > 4096 ? it->made - 4096 : 0; i < it->made; i++)
         if (it->calls[i % 4096] == event->call) call = i;
+    uint64_t took = milliseconds() - it->made_at[call % 4096];
+    if (took > it->longest) it->longest = took;
     if (is_reversed(it, call, event)) it->answered++;
     else it->wrong++;
+    poll(NULL, 0, (int)number(it, "pause", 0));
 }
 
 static void echoed(struct end *it, const struct dt_udp_event *event) {
@@ -223,7 +232,7 @@ static void by_glib(struct end *it) {
 static dt_udp *opened(struct end *it) {
     struct dt_udp_options options = {
         .size = sizeof options, .node = it->node, .host = word(it, "host", NULL), .port = word(it, "port", NULL),
-        .params = {482, 450, 5, 90, 180, number(it, "seg", 1442), 65536, 65536, 65536, 2147483648u, 0}, .charge = 294,
+        .params = {482, number(it, "r", 450), 5, 90, 180, number(it, "seg", 1442), 65536, 65536, 65536, 2147483648u, 0}, .charge = 294,
         .start_as = number(it, "again", 0) ? DT_UDP_START_AGAIN : DT_UDP_START_FIRST, .life = number(it, "life", 1),
         .flags = number(it, "flags", 0), .max_peers = number(it, "learns", 0)};
     bool calls = strcmp(it->mode, "ask") == 0 || strcmp(it->mode, "serve") == 0;
@@ -242,10 +251,12 @@ static dt_udp *opened(struct end *it) {
 static void tell(const struct end *it) {
     const struct dt_udp_counts *c = dt_udp_get_counts(it->udp);
     if (strcmp(it->mode, "ask") == 0)
-        printf("answered %u unsure %u wrong %u declined %u\n", it->answered, it->unsure, it->wrong, it->declined);
+        printf("answered %u unsure %u wrong %u declined %u longest %" PRIu64 "\n", it->answered, it->unsure, it->wrong, it->declined,
+               it->longest);
     if (strcmp(it->mode, "say") == 0) printf("echoed %u wrong %u\n", it->answered, it->wrong);
     printf("reads %" PRIu64 " writes %" PRIu64 " in %" PRIu64 " out %" PRIu64 " unknown %" PRIu64 " not_sent %" PRIu64 " too_big %" PRIu64
-           " steps %" PRIu64 "\n", c->reads, c->writes, c->datagrams_in, c->datagrams_out, c->unknown, c->not_sent, c->too_big, c->clock_steps);
+           " steps %" PRIu64 " learnt %" PRIu64 " moved %" PRIu64 " forgotten %" PRIu64 " challenges %" PRIu64 "\n", c->reads, c->writes, c->datagrams_in, c->datagrams_out, c->unknown, c->not_sent, c->too_big, c->clock_steps,
+           c->peers_learnt, c->peers_moved, c->peers_forgotten, c->challenges_out);
 }
 
 int main(int count, char **words) {
