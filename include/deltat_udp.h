@@ -48,13 +48,16 @@ enum dt_udp_role { DT_UDP_ROLE_NODE = 1, DT_UDP_ROLE_SERVICE = 2 };
 enum dt_udp_start {
     DT_UDP_START_BY_STATE = 0, /* the state folder knows; without `state` this is refused */
     DT_UDP_START_FIRST = 1,    /* the number was never used, or not for dt_quiet() ms */
-    DT_UDP_START_AGAIN = 2     /* it may have been: the node is silent for dt_quiet() ms */
+    DT_UDP_START_AGAIN = 2     /* it may have been: the node is silent for dt_quiet() ms. With `state`: for all of
+                                  them, and the life is drawn, as after a machine was set back to a snapshot */
 };
 
 enum dt_udp_flag { /* bits of options.flags */
     DT_UDP_WITHOUT_SEGMENTS = 1, /* don't use UDP_SEGMENT and UDP_GRO */
     DT_UDP_WITHOUT_BATCHES = 2,  /* read and write one datagram a system call */
     DT_UDP_WITHOUT_STAMPS = 4,   /* don't use the kernel's time stamps */
+    DT_UDP_PARAMS_CHANGED = 16,  /* with `state`: the parameters were changed, with all nodes stopped. If the silence
+                                    by the old ones is longer, dt_udp_open waits for the rest */
     DT_UDP_ALL_PORTS = 8         /* receive at every port, not only at those of dt_udp_open_port */
 };
 
@@ -202,6 +205,12 @@ int dt_udp_fd(dt_udp *udp);
 
 /* Returns the UDP port that the socket is bound to; 0 if the system doesn't say. */
 uint16_t dt_udp_local_port(dt_udp *udp);
+
+/* Returns for how many ms the node is still silent after its start: until then sends and calls are DT_QUIET. */
+uint64_t dt_udp_silent_ms(dt_udp *udp);
+
+/* Returns the life of this opening: that of the state folder, or of the options. */
+uint32_t dt_udp_life(dt_udp *udp);
 
 /* Returns the counters, which belong to the driver. */
 const struct dt_udp_counts *dt_udp_get_counts(dt_udp *udp);

@@ -4,7 +4,7 @@
 `tests/udp.py [CASE ..]`; all cases where none is named. It builds lib/udp with tests/udp/*.c over lib/libdeltat.a and runs
 them as processes over 127.0.0.1, ::1 and `localhost`, under the driver's own wait, poll, epoll and GLib's loop; through a
 relay that loses 1 %; with an end that is killed and started again; in a forked child; over a path that is too narrow for a
-segment; and with strangers: ten thousand that come and go, one whose address changes, and forgers. Ends with 77 where there is no compiler or no archive; a case whose tool is missing says so.
+segment; and with strangers: ten thousand that come and go, one whose address changes, and forgers; and the state folder. Ends with 77 where there is no compiler or no archive; a case whose tool is missing says so.
 
 In tests/all: no words, 600 s."""
 import argparse
@@ -20,6 +20,7 @@ import sys
 import tempfile
 import threading
 import time
+import zlib
 from collections.abc import Callable
 from random import Random
 
@@ -71,7 +72,7 @@ class End:
         if not line.startswith("port "):
             self.process.kill()
             raise AssertionError(f"{' '.join(words)}: {line}{self.process.communicate()[1]}")
-        self.port = int(line.split()[1])
+        self.port, self.life, self.silent = (int(it) for it in line.split()[1::2])
 
     def kill(self) -> None:
         self.process.kill()
@@ -95,6 +96,15 @@ class End:
 def figures(text: str) -> dict[str, int]:
     """The numbers of what an end says, by the word before each."""
     return {name: int(value) for name, value in re.findall(r"(\w+) (\d+)", text)}
+
+
+def boottime() -> int:
+    return time.clock_gettime_ns(time.CLOCK_BOOTTIME) // 1_000_000
+
+
+def checked(lines: str) -> str:
+    """The text of a file of a state folder, with its last line (docs/formats.md)."""
+    return f"{lines}check {zlib.crc32(lines.encode()):08x}\n"
 
 
 class Relay(threading.Thread):
@@ -389,7 +399,68 @@ def forgers(built: Built, folder: pathlib.Path) -> str:
     return f"{found['challenges']} challenges"
 
 
-CASES: list[Callable[[Built, pathlib.Path], str]] = [loops, switches, every_address, loss, killed, forked, narrow, learnt, rebinds, forgers]
+def state(built: Built, folder: pathlib.Path) -> str:
+    """A state folder gives each start a life of its own and the rest of the silence, whatever happened before."""
+    place, quiet, program = folder / "state" / "of" / "1", 3 * 482 + 450 + 5, built("ends")
+    server = End(program, "serve", "next", host=HOST, node=2, learns=10)
+
+    def begin(**keys: object) -> End:
+        return End(program, "ask", "next", **{"host": HOST, "node": 1, "peer": 2, "peer_port": server.port, "count": 10**6, "state": place, "timeout": 20000, **keys})
+
+    def refused(**keys: object) -> str:
+        try:
+            begin(**keys).kill()
+        except AssertionError as why:
+            return str(why)
+        raise AssertionError("it isn't refused")
+
+    def last() -> str:
+        return (place / "last").read_text()
+
+    def until() -> int:
+        return int(re.search(r"until (\d{20})", last())[1])
+
+    client = begin()
+    wants((client.life, client.silent) == (1, 0), "the first start")
+    wants((place / "state").read_text() == checked("deltat state 1\nnode 1\nparams 482 450 5 90 180 1442 65536 65536 65536 2147483648 0\nlife 1\n"), "the form of state")
+    wants(f"is in use by process {client.process.pid};" in refused(), "a second process is refused")
+    time.sleep(1)
+    wants(until() >= boottime() - 50, "what is promised is ahead")
+    client.kill()
+    wants(last() == checked("".join(last().splitlines(keepends=True)[:4])) and len(last()) == 125, f"the form of last: {last()}")
+    begun = boottime()
+    client = begin(count=1)
+    wants(client.life == 2 and quiet - (boottime() - begun) - 20 <= client.silent <= quiet + quiet // 4, f"after a kill: {client.silent}")
+    wants(figures(client.ended())["answered"] == 1, "after the silence calls are answered")
+    ended = until()
+    wants(ended <= boottime(), "a node that is closed promises nothing ahead")
+    time.sleep(0.5)
+    client = begin(count=0)
+    wants(client.life == 3 and client.silent <= quiet - 500, f"the rest of the silence alone: {client.silent}")
+    client.ended()
+    wants(until() == ended, "a start that is ended in its silence doesn't begin it anew")
+    wants("of node 1, and this is node 3" in refused(node=3) and "other parameters" in refused(r=451), "other nodes and other parameters")
+    client = begin(count=0, r=451, flags=16)
+    wants(client.life == 4 and client.silent > 1800, "parameters that were changed")
+    client.ended()
+    for name in ("last", "state"):
+        (place / name).write_text((place / name).read_text().replace("1", "2", 1))
+        client = begin(count=0, r=451)
+        wants(client.silent > 1800, f"{name} is damaged: {client.silent}")
+        client.ended()
+    wants(client.life > 1 << 31 and (place / "state.damaged").exists(), f"a life that is drawn: {client.life}")
+    client = begin(count=1, r=451)
+    client.ended()
+    (place / "last").write_text(checked("\n".join(last().splitlines()[:4]).replace(re.search("boot (.*)", last())[1], "1" * 8 + "-1111-1111-1111-" + "1" * 12) + "\n"))
+    time.sleep(1)
+    client = begin(count=0, r=451)
+    wants(client.silent > 1800, f"before the machine started: {client.silent}")
+    client.ended()
+    server.stop()
+    return f"lives 1 to {client.life}"
+
+
+CASES: list[Callable[[Built, pathlib.Path], str]] = [loops, switches, every_address, loss, killed, forked, narrow, learnt, rebinds, forgers, state]
 
 
 def main() -> int:

@@ -58,15 +58,12 @@ uint8_t dt_udp_open_port(dt_udp *u, uint16_t port, uint8_t kind) {
 /* --- messages and calls: each is an input of the node at this reading, and what it makes has to leave soon. (What is
  * handed in and isn't acknowledged yet would be kept within a window of the peer here.) */
 
-static uint64_t begins(dt_udp *u) {
-    uint64_t at = dtu_clock_ms();
-    dtu_write_made(u, at);
-    return at;
-}
-
-static uint8_t not_usable(const dt_udp *u, const void *handle) {
-    if (u->failed) return u->failed;
-    return handle ? DT_DONE : DT_CLOSED;
+/* Whether the call can be made, with `*at` as its reading: DT_DONE, or the status that it gets. */
+static uint8_t begin(dt_udp *u, const void *handle, uint64_t *at) {
+    if (!dtu_is_usable(u)) return u->failed;
+    if (handle == NULL) return DT_CLOSED;
+    *at = dtu_clock_ms();
+    return dtu_begin(u, *at) ? DT_DONE : u->failed;
 }
 
 /* (The library wants a pointer even if there are no octets. It doesn't write through it.) */
@@ -76,10 +73,9 @@ static struct iovec payload_of(const void *octets, size_t len) {
 }
 
 struct dt_sent dt_udp_send(dt_udp *u, const struct dt_flow *flow, const void *octets, size_t len) {
-    (void)dtu_is_usable(u);
-    uint8_t status = not_usable(u, u->core.node);
+    uint64_t at;
+    uint8_t status = begin(u, u->core.node, &at);
     if (status != DT_DONE) return (struct dt_sent){.status = status};
-    uint64_t at = begins(u);
     struct iovec payload = payload_of(octets, len);
     struct dt_sent sent = dtu_core_send(&u->core, at, flow, payload.iov_base, payload.iov_len);
     dtu_judge(u);
@@ -88,31 +84,31 @@ struct dt_sent dt_udp_send(dt_udp *u, const struct dt_flow *flow, const void *oc
 }
 
 struct dt_made dt_udp_call(dt_udp *u, const struct dt_flow *flow, const void *octets, size_t len, uint32_t timeout_ms) {
-    (void)dtu_is_usable(u);
-    uint8_t status = not_usable(u, u->core.service);
+    uint64_t at;
+    uint8_t status = begin(u, u->core.service, &at);
     if (status != DT_DONE) return (struct dt_made){.status = status};
     struct iovec payload = payload_of(octets, len);
-    struct dt_made made = dtu_core_call(&u->core, begins(u), flow, &payload, timeout_ms);
+    struct dt_made made = dtu_core_call(&u->core, at, flow, &payload, timeout_ms);
     if (made.status == DT_DONE) u->open_calls++;
     dtu_judge(u);
     return made;
 }
 
 struct dt_replied dt_udp_reply(dt_udp *u, const struct dt_token *token, const void *octets, size_t len) {
-    (void)dtu_is_usable(u);
-    uint8_t status = not_usable(u, u->core.service);
+    uint64_t at;
+    uint8_t status = begin(u, u->core.service, &at);
     if (status != DT_DONE) return (struct dt_replied){.status = status};
     struct iovec payload = payload_of(octets, len);
-    struct dt_replied replied = dtu_core_reply(&u->core, begins(u), token, &payload);
+    struct dt_replied replied = dtu_core_reply(&u->core, at, token, &payload);
     dtu_judge(u);
     return replied;
 }
 
 uint8_t dt_udp_forget(dt_udp *u, const struct dt_token *token) {
-    (void)dtu_is_usable(u);
-    uint8_t status = not_usable(u, u->core.service);
+    uint64_t at;
+    uint8_t status = begin(u, u->core.service, &at);
     if (status != DT_DONE) return status;
-    status = dtu_core_forget(&u->core, begins(u), token);
+    status = dtu_core_forget(&u->core, at, token);
     dtu_judge(u);
     return status;
 }

@@ -124,8 +124,7 @@ static bool next_report(dt_udp *u) {
 static bool next_message(dt_udp *u) {
     if (u->unread && u->queue.octets <= u->options.max_queued / 2) {
         uint64_t at = dtu_clock_ms();
-        dtu_write_made(u, at);
-        dtu_events_collect(u, at);
+        if (dtu_begin(u, at)) dtu_events_collect(u, at);
     }
     struct message *it = u->queue.first;
     if (it == NULL) return false;

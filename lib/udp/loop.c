@@ -73,8 +73,8 @@ void dtu_loop_turn(dt_udp *u, int wait_ms) {
     uint64_t at = u->turned_at = dtu_clock_ms();
     dtu_strangers_greet(u, at);
     if (at <= u->ticked_at || dtu_core_wake(&u->core) > at || u->failed) return;
+    if (!dtu_begin(u, at)) return;
     u->ticked_at = at;
-    dtu_write_made(u, at);
     (void)dtu_core_tick(&u->core, at);
     dtu_judge(u);
     dtu_events_collect(u, at);

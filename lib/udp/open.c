@@ -39,6 +39,18 @@ void dtu_judge(dt_udp *u) {
     if (u->core.stopped) dtu_fail(u, u->core.stopped, 0);
 }
 
+/* Begins an input of the node with this reading: what it makes is late LATE_MS after the oldest reading, and the state folder
+ * knows of it before it is done. False: the input must not be given to the node. */
+bool dtu_begin(dt_udp *u, uint64_t at) {
+    if (u->failed) return false;
+    if (!dtu_state_note(u, at)) {
+        dtu_fail(u, DT_CLOSED, errno);
+        return false;
+    }
+    if (u->out.made_at == NEVER) u->out.made_at = at;
+    return true;
+}
+
 /* Whether the driver may be used: it didn't fail, and this is the process that opened it. */
 bool dtu_is_usable(dt_udp *u) {
     if (!is_owner(u)) {
@@ -62,9 +74,11 @@ static uint8_t take_options(dt_udp *u, const struct dt_udp_options *given, struc
     if (o->role == 0) o->role = DT_UDP_ROLE_NODE;
     if (o->role != DT_UDP_ROLE_NODE && o->role != DT_UDP_ROLE_SERVICE)
         return dtu_refuse(error, DT_REFUSED, 0, "options.role is %u; use enum dt_udp_role", o->role);
-    if (o->start_as != DT_UDP_START_FIRST && o->start_as != DT_UDP_START_AGAIN)
+    if (o->state && o->start_as == DT_UDP_START_FIRST)
+        return dtu_refuse(error, DT_REFUSED, 0, "options.start_as is DT_UDP_START_FIRST, and the state folder knows better; leave it 0");
+    if (o->start_as > DT_UDP_START_AGAIN || (o->start_as == DT_UDP_START_BY_STATE && o->state == NULL))
         return dtu_refuse(error, DT_REFUSED, 0, "options.start_as is %u; use DT_UDP_START_AGAIN unless the number is new", o->start_as);
-    if (o->flags >> 4) return dtu_refuse(error, DT_REFUSED, 0, "options.flags is %u; use enum dt_udp_flag", o->flags);
+    if (o->flags >> 5) return dtu_refuse(error, DT_REFUSED, 0, "options.flags is %u; use enum dt_udp_flag", o->flags);
     o->link = o->link ? o->link : 1;
     o->max_calls = or_usual(o->max_calls, 1000);
     o->max_requests = or_usual(o->max_requests, 1000);
@@ -79,7 +93,11 @@ static uint8_t take_options(dt_udp *u, const struct dt_udp_options *given, struc
 
 static uint8_t open_core(dt_udp *u, struct dt_udp_error *error) {
     uint8_t parameter = 0;
-    uint8_t status = dtu_core_open(&u->core, &u->options, dtu_clock_ms_of(&u->opened), &parameter);
+    uint64_t now = dtu_clock_ms_of(&u->opened);
+    uint8_t status = dtu_core_quiet_ms(&u->options.params) ? dtu_state_open(u, &now, error) : DT_DONE;
+    if (status != DT_DONE) return status;
+    status = dtu_core_open(&u->core, &u->options, now, &parameter);
+    if (u->options.start_as == DT_UDP_START_AGAIN) u->quiet_until = now + dtu_core_quiet_ms(&u->options.params);
     if (error) error->parameter = parameter;
     if (status == DT_REFUSED) return dtu_refuse(error, status, 0, "number %u of params is out of its range (deltat.h)", parameter);
     if (status == DT_DONE) status = dtu_core_set_guard(&u->core, &u->ports, u->options.flags & DT_UDP_ALL_PORTS, u->options.max_flows);
@@ -108,7 +126,7 @@ dt_udp *dt_udp_open(const struct dt_udp_options *options, struct dt_udp_error *e
     if (error) memset(error, 0, sizeof *error);
     dt_udp *u = calloc(1, sizeof *u);
     if (u == NULL) return (void)dtu_refuse(error, DT_NO_MEMORY, 0, "out of memory"), NULL;
-    u->socket = u->epoll = u->timer = -1;
+    u->socket = u->epoll = u->timer = u->state.folder = u->state.lock = u->state.last = -1;
     u->armed_at = u->out.made_at = NEVER;
     if (open_all(u, options, error) == DT_DONE) return u;
     dt_udp_close(u);
@@ -117,7 +135,9 @@ dt_udp *dt_udp_open(const struct dt_udp_options *options, struct dt_udp_error *e
 
 void dt_udp_close(dt_udp *u) {
     if (u == NULL) return;
+    (void)dtu_is_usable(u);
     dtu_core_close(&u->core);
+    dtu_state_close(u);
     dtu_events_close(u);
     dtu_reading_close(u);
     dtu_writing_close(u);

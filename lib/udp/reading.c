@@ -91,7 +91,7 @@ bool dtu_is_from(struct peer *peer, const struct address *from) {
 /* Passes one datagram in; whether the node took it. What of it becomes readable is read at once, so that acknowledgements
  * say how much room there is. (A trailer behind the frame would be taken off here, and its age told in `waited_ms`.) */
 bool dtu_pass_in(dt_udp *u, const struct arrival *it) {
-    dtu_write_made(u, it->at);
+    if (!dtu_begin(u, it->at)) return false;
     bool taken = dtu_core_receive(&u->core, it->at, it->octets, it->len, it->waited_ms) == DT_DONE;
     if (taken) u->heard_at = it->at;
     dtu_judge(u);

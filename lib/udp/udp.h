@@ -5,6 +5,7 @@
  *   sockets.c   the socket and its options, addresses of names
  *   peers.c     the table of peers
  *   strangers.c peers that are learnt
+ *   state.c     the state folder
  *   reading.c   datagrams from the socket to the node
  *   writing.c   datagrams from the node to the socket
  *   clocks.c    readings of the clocks, and how long a datagram waited in the socket
@@ -177,6 +178,17 @@ struct ports {
     size_t count, size;
 };
 
+/* The state folder; its descriptors are -1 without one. */
+struct state {
+    int folder, lock, last;
+    bool again;      /* the node may have had an earlier life */
+    bool has_state;  /* the file `state` was whole */
+    bool ends_known; /* `ended`: when the last life ended, in ms */
+    bool has_until;  /* `until`: what the file `last` promises */
+    uint64_t ended, until, noted, quiet_until, ahead;
+    uint32_t life;
+};
+
 struct dt_udp {
     struct dt_udp_options options; /* its pointers are null after the opening */
     struct dt_udp_counts counts;
@@ -186,6 +198,7 @@ struct dt_udp {
     struct ports ports;
     struct strangers strangers;
     struct held held;
+    struct state state;
     struct queue queue;
     struct reports reports;
     struct message *lent;  /* what the last event points to */
@@ -203,6 +216,7 @@ struct dt_udp {
     bool stepped;          /* the wall clock was set since `empty` */
     bool interrupted;      /* a signal ended the last wait */
     bool unread;           /* messages stay in the node, since too many octets wait for dt_udp_next */
+    uint64_t quiet_until;  /* the node is silent until then */
     uint64_t open_calls;   /* whose end wasn't handed out */
     uint64_t heard_at;     /* when a datagram was last passed in */
     uint64_t ticked_at;    /* when the node last did what is due */
@@ -243,6 +257,7 @@ uint64_t dtu_core_quiet_ms(const struct dt_params *params);
 bool dtu_is_usable(dt_udp *u);
 void dtu_fail(dt_udp *u, uint8_t status, int system_error);
 void dtu_judge(dt_udp *u);
+bool dtu_begin(dt_udp *u, uint64_t at);
 
 /* --- sockets.c */
 uint8_t dtu_socket_open(dt_udp *u, struct dt_udp_error *error);
@@ -271,6 +286,11 @@ void dtu_strangers_greet(dt_udp *u, uint64_t at);
 bool dtu_is_control(dt_udp *u, struct arrival *arrival);
 void dtu_stranger(dt_udp *u, const struct arrival *arrival);
 
+/* --- state.c */
+uint8_t dtu_state_open(dt_udp *u, uint64_t *now, struct dt_udp_error *error);
+bool dtu_state_note(dt_udp *u, uint64_t at);
+void dtu_state_close(dt_udp *u);
+
 /* --- clocks.c */
 uint64_t dtu_clock_ms(void);
 uint64_t dtu_clock_ms_of(const struct reading *reading);
@@ -291,7 +311,6 @@ bool dtu_pass_in(dt_udp *u, const struct arrival *arrival);
 /* --- writing.c */
 uint8_t dtu_writing_open(dt_udp *u);
 void dtu_writing_close(dt_udp *u);
-void dtu_write_made(dt_udp *u, uint64_t at);
 void dtu_write_all(dt_udp *u);
 void dtu_write_control(dt_udp *u, const struct arrival *to, const uint8_t *octets, size_t len);
 void dtu_write_held(dt_udp *u, const struct peer *peer);

@@ -18,11 +18,6 @@ uint8_t dtu_writing_open(dt_udp *u) {
 
 void dtu_writing_close(dt_udp *u) { free(u->out.rooms); }
 
-/* Says that the node is called with this reading: what it makes is late LATE_MS after the oldest one. */
-void dtu_write_made(dt_udp *u, uint64_t at) {
-    if (u->out.made_at == NEVER) u->out.made_at = at;
-}
-
 /* --- control messages: how the system cuts the octets, and from which of our addresses they leave */
 
 static void add_control(struct msghdr *head, int level, int type, const struct iovec *data) {

@@ -233,7 +233,8 @@ static dt_udp *opened(struct end *it) {
     struct dt_udp_options options = {
         .size = sizeof options, .node = it->node, .host = word(it, "host", NULL), .port = word(it, "port", NULL),
         .params = {482, number(it, "r", 450), 5, 90, 180, number(it, "seg", 1442), 65536, 65536, 65536, 2147483648u, 0}, .charge = 294,
-        .start_as = number(it, "again", 0) ? DT_UDP_START_AGAIN : DT_UDP_START_FIRST, .life = number(it, "life", 1),
+        .state = word(it, "state", NULL),
+        .start_as = word(it, "state", NULL) ? DT_UDP_START_BY_STATE : number(it, "again", 0) ? DT_UDP_START_AGAIN : DT_UDP_START_FIRST, .life = number(it, "life", 1),
         .flags = number(it, "flags", 0), .max_peers = number(it, "learns", 0)};
     bool calls = strcmp(it->mode, "ask") == 0 || strcmp(it->mode, "serve") == 0;
     options.role = calls ? DT_UDP_ROLE_SERVICE : DT_UDP_ROLE_NODE;
@@ -272,7 +273,7 @@ int main(int count, char **words) {
     end.log = word(&end, "log", NULL) ? fopen(word(&end, "log", ""), "a") : NULL;
     sigaction(SIGTERM, &(struct sigaction){.sa_handler = stop}, NULL);
     end.udp = opened(&end);
-    printf("port %u\n", dt_udp_local_port(end.udp));
+    printf("port %u life %u silent %" PRIu64 "\n", dt_udp_local_port(end.udp), dt_udp_life(end.udp), dt_udp_silent_ms(end.udp));
     fflush(stdout);
     if (strcmp(words[2], "next") == 0) by_next(&end);
     else if (strcmp(words[2], "poll") == 0) by_poll(&end);
