@@ -142,6 +142,10 @@ struct dt_udp_counts {
 /* Returns the interface version of the library. Compare it with DT_UDP_ABI_VERSION first. */
 uint32_t dt_udp_abi_version(void);
 
+/* Draws a node number that nobody had, but by chance: from 65,536 to 4,294,967,295. Start it with DT_UDP_START_FIRST; it needs
+ * no state folder. Returns 0 if the system has no random octets. */
+uint32_t dt_udp_fresh_number(void);
+
 /* Opens a node or a service and binds its socket. Returns null if that fails, and `error` says why;
  * then nothing is left open.
  * Cost: about 2 MB of buffers, of which only what is used becomes resident. */

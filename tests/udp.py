@@ -21,7 +21,7 @@ import tempfile
 import threading
 import time
 import zlib
-from collections.abc import Callable
+from collections.abc import Callable, Sequence
 from random import Random
 
 from lib import HOST, TOP, free_port, skip
@@ -30,6 +30,7 @@ HERE = TOP / "tests" / "udp"
 ARCHIVE = TOP / "lib" / "libdeltat.a"
 SANITIZED = ("-fsanitize=address,undefined", "-fno-sanitize-recover=all")
 FLAGS = ("-std=c11", "-D_GNU_SOURCE", "-Wall", "-Wextra", "-Werror", "-O1", "-g", f"-I{TOP / 'include'}", *SANITIZED)
+COMPILER = shutil.which("gcc") or shutil.which("clang") or ""
 # how long a process may take, on a machine that others load
 PATIENCE = 60
 
@@ -47,16 +48,30 @@ class Built:
         """The path of a program; `plain`: without sanitizers, where memory is measured."""
         key = f"{name}-plain" if plain else name
         if key not in self.done:
-            out = self.folder / key
             more = ["-DWITH_GLIB", *self.glib] if self.glib and name == "ends" else []
-            sources = [HERE / f"{name}.c", *sorted((TOP / "lib" / "udp").glob("*.c"))]
             flags = [it for it in FLAGS if not (plain and it in SANITIZED)]
-            words = [shutil.which("gcc") or "clang", *flags, *(str(it) for it in sources), str(ARCHIVE), *more, "-o", str(out)]
-            ran = subprocess.run(words, capture_output=True, text=True, check=False)
-            if ran.returncode:
-                sys.exit(f"{' '.join(words)}\n{ran.stderr}")
-            self.done[key] = out
+            self.done[key] = self.compiled(key, [HERE / f"{name}.c"], flags, more)
         return str(self.done[key])
+
+    def compiled(self, key: str, sources: list[pathlib.Path], flags: Sequence[str] = FLAGS, more: Sequence[str] = ()) -> pathlib.Path:
+        """A program of these sources, the driver and the library."""
+        out = self.folder / key
+        self.run([*flags, *map(str, sources), *self.driver(flags), str(ARCHIVE), *more, "-o", str(out)])
+        return out
+
+    def driver(self, flags: Sequence[str]) -> list[str]:
+        """The driver's objects, compiled once for these flags."""
+        place = self.folder / f"driver-{zlib.crc32(' '.join(flags).encode()):08x}"
+        if not place.exists():
+            place.mkdir()
+            for it in sorted((TOP / "lib" / "udp").glob("*.c")):
+                self.run([*flags, "-c", str(it), "-o", str(place / f"{it.stem}.o")])
+        return [str(it) for it in sorted(place.glob("*.o"))]
+
+    def run(self, words: Sequence[str]) -> None:
+        ran = subprocess.run([COMPILER, *words], capture_output=True, text=True, check=False)
+        if ran.returncode:
+            sys.exit(f"{' '.join(words)}\n{ran.stderr}")
 
     def loops(self) -> list[str]:
         return ["next", "poll", "epoll", *(["glib"] if self.glib else [])]
@@ -158,6 +173,24 @@ def wants(truth: bool, what: str) -> None:
 
 
 # --- cases
+
+
+def examples(built: Built, folder: pathlib.Path) -> str:
+    """A service and a client of at most 30 lines of C each, over IPv4, IPv6 and a name."""
+    port, programs = str(free_port()), {}
+    for name in ("udp_service", "udp_client"):
+        source = TOP / "examples" / f"{name}.c"
+        lines = re.sub(r"/\*.*?\*/", "", source.read_text(), flags=re.DOTALL).split("\n")
+        wants(sum(1 for it in lines if it.strip()) <= 30, f"{name}.c has more than 30 lines")
+        programs[name] = str(built.compiled(name, [source]))
+    for start in range(2):
+        with subprocess.Popen([programs["udp_service"], port, str(folder / "node-2")]) as service:
+            time.sleep(0.5 if start == 0 else 2.5)  # (it is silent after its second start)
+            for host in ("127.0.0.1", "::1", "localhost"):
+                ran = subprocess.run([programs["udp_client"], host, f"hello {host}", port], capture_output=True, text=True, timeout=PATIENCE, check=False)
+                wants(ran.stdout == f"hello {host}"[::-1] + "\n" and ran.returncode == 0, f"{host}: {ran.stdout}{ran.stderr}")
+            service.kill()
+    return "over 127.0.0.1, ::1 and localhost; again after a kill"
 
 
 def loops(built: Built, folder: pathlib.Path) -> str:
@@ -460,14 +493,14 @@ def state(built: Built, folder: pathlib.Path) -> str:
     return f"lives 1 to {client.life}"
 
 
-CASES: list[Callable[[Built, pathlib.Path], str]] = [loops, switches, every_address, loss, killed, forked, narrow, learnt, rebinds, forgers, state]
+CASES: list[Callable[[Built, pathlib.Path], str]] = [examples, loops, switches, every_address, loss, killed, forked, narrow, learnt, rebinds, forgers, state]
 
 
 def main() -> int:
     reads = argparse.ArgumentParser(description=__doc__, formatter_class=argparse.RawDescriptionHelpFormatter)
     reads.add_argument("cases", nargs="*", metavar="CASE", help=", ".join(it.__name__ for it in CASES))
     given = reads.parse_args()
-    if not shutil.which("gcc") and not shutil.which("clang"):
+    if not COMPILER:
         skip("there is no compiler of C")
     if not ARCHIVE.exists():
         skip(f"there is no {ARCHIVE.relative_to(TOP)}: make -C lib")

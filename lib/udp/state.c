@@ -17,7 +17,7 @@
 #include <time.h>
 #include <unistd.h>
 
-enum { TEXT = 512, LEAST_AHEAD_MS = 50, BOOT = 36 };
+enum { TEXT = 512, LEAST_AHEAD_MS = 50, BOOT = 36, FIRST_FRESH = 65536 };
 
 static const uint32_t DRAWN_FROM = UINT32_C(1) << 31; /* lives are counted from 1, and drawn from here on if the count is lost */
 static const char NO_BOOT[] = "00000000-0000-0000-0000-000000000000";
@@ -328,6 +328,14 @@ void dtu_state_close(dt_udp *u) {
     if (s->last >= 0) close(s->last);
     if (s->lock >= 0) close(s->lock);
     if (s->folder >= 0) close(s->folder);
+}
+
+uint32_t dt_udp_fresh_number(void) {
+    uint32_t drawn = 0;
+    do
+        if (getrandom(&drawn, sizeof drawn, 0) != sizeof drawn && errno != EINTR) return 0;
+    while (drawn < FIRST_FRESH);
+    return drawn;
 }
 
 uint64_t dt_udp_silent_ms(dt_udp *u) {

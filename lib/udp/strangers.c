@@ -172,6 +172,9 @@ static void challenge(dt_udp *u, const struct arrival *it) {
         s->burst_at = it->at;
         s->burst = 0;
     }
+    if (s->asked_at == it->at && dtu_same_address(&s->asked, it->from)) return; /* (one of a burst is enough) */
+    s->asked_at = it->at;
+    s->asked = *it->from;
     if (++s->burst > MAX_BURST) {
         u->counts.challenges_withheld++;
         return;

@@ -101,6 +101,8 @@ struct strangers {
     uint64_t burst_at;
     struct peer *provers;  /* configured peers that asked us for a proof */
     uint64_t greeted_at;
+    struct address asked;  /* who was asked last, and when */
+    uint64_t asked_at;
     uint32_t burst, count; /* challenges since burst_at; peers that are learnt now */
     uint32_t numbers;      /* that were ever learnt */
 };

@@ -105,8 +105,9 @@ static bool waits_for_room(dt_udp *u) {
     return poll(&(struct pollfd){.fd = u->socket, .events = POLLOUT}, 1, (int)(LATE_MS - since)) > 0;
 }
 
-/* Keeps a frame for a peer that hasn't answered yet: it may ask for a proof first. */
+/* Keeps the first frame of those for a peer that hasn't answered yet: it may ask for a proof first. */
 static void hold(dt_udp *u, const struct peer *peer, const struct iovec *frame) {
+    if (u->held.len && u->held.to == peer->node && !is_late(u->held.made_at)) return;
     u->held.to = peer->node;
     u->held.len = frame->iov_len;
     u->held.made_at = u->out.made_at;

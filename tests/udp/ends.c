@@ -27,7 +27,16 @@
 
 enum { CALLER = 10, SERVICE = 20, MOST = 65528 };
 
+/* A reply for which there was no room yet. */
+struct waiting {
+    struct waiting *next;
+    struct dt_token token;
+    size_t len;
+    uint8_t octets[];
+};
+
 struct end {
+    struct waiting *first, *last;
     dt_udp *udp;
     char **words;
     const char *mode;
@@ -111,7 +120,28 @@ static void echo(struct end *it) {
     else if (sent.status != DT_FULL) die("an echo isn't sent");
 }
 
+/* Replies, or keeps the reply until there is room for it. */
+static void reply(struct end *it, const struct dt_token *token, size_t len) {
+    if (it->first == NULL && dt_udp_reply(it->udp, token, it->room, len).status != DT_FULL) return;
+    struct waiting *kept = malloc(sizeof *kept + len);
+    if (kept == NULL) die("out of memory");
+    *kept = (struct waiting){.token = *token, .len = len};
+    memcpy(kept->octets, it->room, len);
+    if (it->first) it->last->next = kept;
+    else it->first = kept;
+    it->last = kept;
+}
+
+static void reply_more(struct end *it) {
+    while (it->first && dt_udp_reply(it->udp, &it->first->token, it->first->octets, it->first->len).status != DT_FULL) {
+        struct waiting *gone = it->first;
+        it->first = gone->next;
+        free(gone);
+    }
+}
+
 static void act(struct end *it) {
+    reply_more(it);
     echo(it);
     if (strcmp(it->mode, "ask") == 0) make_calls(it);
     if (strcmp(it->mode, "say") == 0) say(it);
@@ -157,8 +187,7 @@ static void handle(struct end *it, const struct dt_udp_event *event) {
     if (event->kind == DT_UDP_EVENT_REQUEST) {
         log_request(it, &event->token);
         for (size_t i = 0; i < event->len; i++) it->room[i] = event->octets[event->len - 1 - i];
-        struct dt_replied replied = dt_udp_reply(it->udp, &event->token, it->room, event->len);
-        if (replied.status != DT_DONE) dt_udp_forget(it->udp, &event->token);
+        reply(it, &event->token, event->len);
     } else if (event->kind == DT_UDP_EVENT_ANSWER || event->kind == DT_UDP_EVENT_UNSURE) ended(it, event);
     else if (event->kind == DT_UDP_EVENT_MESSAGE) echoed(it, event);
     else if (event->kind == DT_UDP_EVENT_TOO_BIG) printf("too big: %zu octets to %u\n", event->len, event->peer), it->over = true;
