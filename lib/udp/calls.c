@@ -73,7 +73,7 @@ static struct iovec payload_of(const void *octets, size_t len) {
 }
 
 struct dt_sent dt_udp_send(dt_udp *u, const struct dt_flow *flow, const void *octets, size_t len) {
-    uint64_t at;
+    uint64_t at = 0;
     uint8_t status = begin(u, u->core.node, &at);
     if (status != DT_DONE) return (struct dt_sent){.status = status};
     struct iovec payload = payload_of(octets, len);
@@ -84,7 +84,7 @@ struct dt_sent dt_udp_send(dt_udp *u, const struct dt_flow *flow, const void *oc
 }
 
 struct dt_made dt_udp_call(dt_udp *u, const struct dt_flow *flow, const void *octets, size_t len, uint32_t timeout_ms) {
-    uint64_t at;
+    uint64_t at = 0;
     uint8_t status = begin(u, u->core.service, &at);
     if (status != DT_DONE) return (struct dt_made){.status = status};
     struct iovec payload = payload_of(octets, len);
@@ -95,7 +95,7 @@ struct dt_made dt_udp_call(dt_udp *u, const struct dt_flow *flow, const void *oc
 }
 
 struct dt_replied dt_udp_reply(dt_udp *u, const struct dt_token *token, const void *octets, size_t len) {
-    uint64_t at;
+    uint64_t at = 0;
     uint8_t status = begin(u, u->core.service, &at);
     if (status != DT_DONE) return (struct dt_replied){.status = status};
     struct iovec payload = payload_of(octets, len);
@@ -105,7 +105,7 @@ struct dt_replied dt_udp_reply(dt_udp *u, const struct dt_token *token, const vo
 }
 
 uint8_t dt_udp_forget(dt_udp *u, const struct dt_token *token) {
-    uint64_t at;
+    uint64_t at = 0;
     uint8_t status = begin(u, u->core.service, &at);
     if (status != DT_DONE) return status;
     status = dtu_core_forget(&u->core, at, token);

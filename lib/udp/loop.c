@@ -62,6 +62,15 @@ void dtu_loop_arm(dt_udp *u) {
     u->armed_at = wake;
 }
 
+/* Does what is due. Each input does that too, so nothing is due at the reading of the last one. */
+static void tick(dt_udp *u, uint64_t at) {
+    if (at <= u->input_at || at <= u->ticked_at || u->failed || dtu_core_wake(&u->core) > at || !dtu_begin(u, at)) return;
+    u->ticked_at = at;
+    (void)dtu_core_tick(&u->core, at);
+    dtu_judge(u);
+    dtu_events_collect(u, at);
+}
+
 /* Sends what waits, looks at the socket once, for at most `wait_ms` ms (-1: without limit), and does what is due. */
 void dtu_loop_turn(dt_udp *u, int wait_ms) {
     dtu_write_all(u);
@@ -72,12 +81,7 @@ void dtu_loop_turn(dt_udp *u, int wait_ms) {
     dtu_read_socket(u, wait_ms);
     uint64_t at = u->turned_at = dtu_clock_ms();
     dtu_strangers_greet(u, at);
-    if (at <= u->ticked_at || dtu_core_wake(&u->core) > at || u->failed) return;
-    if (!dtu_begin(u, at)) return;
-    u->ticked_at = at;
-    (void)dtu_core_tick(&u->core, at);
-    dtu_judge(u);
-    dtu_events_collect(u, at);
+    tick(u, at);
 }
 
 uint8_t dt_udp_drain(dt_udp *u, int wait_ms) {

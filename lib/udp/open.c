@@ -48,6 +48,7 @@ bool dtu_begin(dt_udp *u, uint64_t at) {
         return false;
     }
     if (u->out.made_at == NEVER) u->out.made_at = at;
+    if (at > u->input_at) u->input_at = at;
     return true;
 }
 

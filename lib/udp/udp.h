@@ -221,6 +221,7 @@ struct dt_udp {
     uint64_t quiet_until;  /* the node is silent until then */
     uint64_t open_calls;   /* whose end wasn't handed out */
     uint64_t heard_at;     /* when a datagram was last passed in */
+    uint64_t input_at;     /* the greatest reading of an input */
     uint64_t ticked_at;    /* when the node last did what is due */
     uint64_t turned_at;    /* when the socket was last looked at */
     uint64_t armed_at;     /* what the timer is set to; NEVER: it isn't */

@@ -205,6 +205,12 @@ static bool is_over(const struct end *it) {
 
 /* --- the loops */
 
+static int descriptor(struct end *it) {
+    int found = dt_udp_fd(it->udp);
+    if (found < 0) die("the driver has no descriptor");
+    return found;
+}
+
 static void take_all(struct end *it) {
     const struct dt_udp_event *event;
     while ((event = dt_udp_next(it->udp, 0))->kind != DT_UDP_EVENT_NONE) handle(it, event);
@@ -216,7 +222,7 @@ static void by_next(struct end *it) {
 }
 
 static void by_poll(struct end *it) {
-    struct pollfd watched = {.fd = dt_udp_fd(it->udp), .events = POLLIN};
+    struct pollfd watched = {.fd = descriptor(it), .events = POLLIN};
     for (act(it); !is_over(it); take_all(it))
         if (poll(&watched, 1, 2000) < 0 && errno != EINTR) die("poll");
 }
@@ -224,7 +230,7 @@ static void by_poll(struct end *it) {
 static void by_epoll(struct end *it) {
     int many = epoll_create1(EPOLL_CLOEXEC);
     struct epoll_event wanted = {.events = EPOLLIN}, ready;
-    if (many < 0 || epoll_ctl(many, EPOLL_CTL_ADD, dt_udp_fd(it->udp), &wanted)) die("epoll");
+    if (many < 0 || epoll_ctl(many, EPOLL_CTL_ADD, descriptor(it), &wanted)) die("epoll");
     for (act(it); !is_over(it); take_all(it))
         if (epoll_wait(many, &ready, 1, 2000) < 0 && errno != EINTR) die("epoll_wait");
     close(many);
@@ -247,7 +253,7 @@ static gboolean by_time(gpointer data) {
 
 static void by_glib(struct end *it) {
     loop = g_main_loop_new(NULL, FALSE);
-    guint watch = g_unix_fd_add(dt_udp_fd(it->udp), G_IO_IN, by_source, it), timer = g_timeout_add(500, by_time, it);
+    guint watch = g_unix_fd_add(descriptor(it), G_IO_IN, by_source, it), timer = g_timeout_add(500, by_time, it);
     act(it);
     g_main_loop_run(loop);
     g_source_remove(watch);
