@@ -56,28 +56,31 @@ FAULTS = [
     Fault("mmap", "ENOMEM", 40, (OK, REFUSED, FAILED, "not begun"), "next"),
     Fault("mkdir", "EACCES ENOSPC", 2, (OK, REFUSED), "poll", {"state": True}),
     Fault("openat", "EMFILE EACCES EIO", 30, (OK, REFUSED, "not begun"), "poll", {"state": True}),
-    Fault("flock", "EWOULDBLOCK EINTR ENOLCK", 1, (REFUSED,), "poll", {"state": True}),
+    Fault("flock", "EAGAIN EINTR ENOLCK", 1, (REFUSED,), "poll", {"state": True}),
     Fault("fsync", "EIO ENOSPC", 4, (REFUSED,), "poll", {"state": True}),
     Fault("renameat", "EIO", 1, (REFUSED,), "poll", {"state": True}),
     Fault("ftruncate", "EIO", 4, (OK, REFUSED, FAILED), "poll", {"state": True}),
-    Fault("pwrite64", "ENOSPC EIO", 4, (OK, REFUSED, FAILED), "poll", {"state": True}),
+    Fault("pwrite64", "ENOSPC EIO", 4, (OK, REFUSED, FAILED, "declined"), "poll", {"state": True}),
     Fault("readlink", "EACCES ENOENT", 2, (OK,), "poll", {"state": True}),
     Fault("getdents64", "EIO", 1, (REFUSED,), "poll", {"state": True}),
 ]
 
 
-def outcome(ran: "subprocess.CompletedProcess[str]", count: int) -> str:
-    """What came of a run, in one of the words of Fault.ends; anything else tells of a fault of the driver."""
+def outcome(ran: "subprocess.CompletedProcess[str]", count: int, fault_of_loader: bool) -> str:
+    """What came of a run, in one of the words of Fault.ends; anything else is a fault of the driver. The first mappings of
+    memory are the loader's, which may crash without them."""
     found = udp.figures(ran.stdout)
     if ran.returncode == 0 and "too big" in ran.stdout:
         return "too big"
     if ran.returncode == 0 and found.get("answered") == count and found.get("wrong") == 0:
         return OK
+    if ran.returncode == 0 and found.get("declined") == count:
+        return "declined"
     if ran.returncode == 1 and re.fullmatch(r"ends: [^\n]{10,}\n", ran.stderr):
         return REFUSED
     if ran.returncode == 3 and re.fullmatch(r"ends: failed: status \d+, [^\n]+\n", ran.stderr):
         return FAILED
-    if ran.returncode == 127 or "error while loading" in ran.stderr:
+    if ran.returncode == 127 or "error while loading" in ran.stderr or (fault_of_loader and ran.returncode == -11 and not ran.stdout + ran.stderr):
         return "not begun"
     return f"status {ran.returncode}: {ran.stdout[-300:]}{ran.stderr[-300:]}"
 
@@ -94,7 +97,7 @@ def tried(fault: Fault, error: str, at: int, program: str, port: int, folder: pa
         ran = subprocess.run(words, capture_output=True, text=True, timeout=udp.PATIENCE, check=False)
     except subprocess.TimeoutExpired:
         return "it hangs"
-    return outcome(ran, int(keys["count"]))
+    return outcome(ran, int(keys["count"]), fault.call == "mmap" and at < 10)
 
 
 def main() -> int:
