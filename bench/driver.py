@@ -27,7 +27,7 @@ sys.path.insert(0, str(TOP / "tests"))
 
 from lib import HOST, free_port  # noqa: E402
 
-C = ["cc", "-O2", "-D_GNU_SOURCE", "-Wall", "-Wextra", "-Werror"]
+C = ["cc", "-O2", "-Wall", "-Wextra", "-Werror"]
 LIBRARIES = [f"-I{TOP / 'include'}", str(TOP / "lib" / "libdeltat-udp.a"), str(TOP / "lib" / "libdeltat.a")]
 PROGRAMS = {"udp": [], "same": [], "enet": ["-lenet"], "driver": LIBRARIES}
 MESSAGES, LARGE = 50, 65_524
@@ -50,7 +50,10 @@ PEERS = {
     "calls": Peer("driver", {"CALLS": "1"}, "same", True),
     "calls, no segments": Peer("driver", {"CALLS": "1", "FLAGS": "1"}, "same", True),
     "calls, no segments, no batches": Peer("driver", {"CALLS": "1", "FLAGS": "3"}, "same", True),
-    **{f"calls, {many} under way": Peer("driver", {"CALLS": "1", "MANY": many}, "calls") for many in ("32", "1000", "4000")},
+    **{
+        f"calls, {many} under way": Peer("driver", {"CALLS": "1", "MANY": many}, "calls")
+        for many in ("32", "1000", "4000")
+    },
     "messages, 32 under way": Peer("driver", {"MANY": "32"}, "messages"),
 }
 PYTHON = """
@@ -98,7 +101,12 @@ def built(folder: pathlib.Path) -> set[str]:
     """The programs that can be built here."""
     found = set()
     for name, more in PROGRAMS.items():
-        ran = subprocess.run([*C, str(HERE / "peers" / f"{name}.c"), "-o", str(folder / name), *more], capture_output=True, text=True, check=False)
+        ran = subprocess.run(
+            [*C, str(HERE / "peers" / f"{name}.c"), "-o", str(folder / name), *more],
+            capture_output=True,
+            text=True,
+            check=False,
+        )
         if ran.returncode:
             print(f"{name} isn't there: {(ran.stderr.strip().splitlines() or ['?'])[0]}", file=sys.stderr)
         else:
@@ -108,7 +116,9 @@ def built(folder: pathlib.Path) -> set[str]:
 
 def server(folder: pathlib.Path, peer: Peer) -> tuple["subprocess.Popen[bytes]", str]:
     port = str(free_port())
-    it = subprocess.Popen([folder / peer.program, "serve", HOST, port, "-"], stderr=subprocess.DEVNULL, env={**os.environ, **peer.env})
+    it = subprocess.Popen(
+        [folder / peer.program, "serve", HOST, port, "-"], stderr=subprocess.DEVNULL, env={**os.environ, **peer.env}
+    )
     time.sleep(0.2)
     return it, port
 
@@ -136,7 +146,13 @@ def asked(folder: pathlib.Path, peer: Peer, what: str, seconds: float) -> tuple[
 def from_python(folder: pathlib.Path, many: int, seconds: float) -> tuple[float, float]:
     serving, port = server(folder, PEERS["calls"])
     env = {**os.environ, "PYTHONPATH": str(TOP / "bindings" / "python")}
-    ran = subprocess.run([sys.executable, "-c", PYTHON, port, str(seconds), str(many)], capture_output=True, text=True, env=env, check=False)
+    ran = subprocess.run(
+        [sys.executable, "-c", PYTHON, port, str(seconds), str(many)],
+        capture_output=True,
+        text=True,
+        env=env,
+        check=False,
+    )
     serving.kill()
     serving.wait()
     if ran.returncode:
@@ -149,7 +165,9 @@ def from_python(folder: pathlib.Path, many: int, seconds: float) -> tuple[float,
 def line(name: str, found: list[tuple[float, float]], base: float) -> str:
     rate, processor = max(it[0] for it in found), min(it[1] for it in found if it[1] or not it[0])
     factor = f"{rate / base:6.2f}" if base else " " * 6
-    return f"{name:32} {rate:10,.0f} a second {factor} {processor:8.1f} us   ({' '.join(f'{it[0]:,.0f}' for it in found)})"
+    return (
+        f"{name:32} {rate:10,.0f} a second {factor} {processor:8.1f} us   ({' '.join(f'{it[0]:,.0f}' for it in found)})"
+    )
 
 
 def main() -> int:
@@ -164,7 +182,9 @@ def main() -> int:
     with tempfile.TemporaryDirectory(prefix="deltat-bench-") as name:
         folder = pathlib.Path(name)
         programs = built(folder)
-        peers = {name: it for name, it in PEERS.items() if it.program in programs and (not given.only or name in given.only)}
+        peers = {
+            name: it for name, it in PEERS.items() if it.program in programs and (not given.only or name in given.only)
+        }
         python = {name: many for name, many in (("Python", 1), ("asyncio", 32)) if not given.only or name in given.only}
         answers: dict[str, list[tuple[float, float]]] = {name: [] for name in (*peers, *python)}
         messages: dict[str, list[tuple[float, float]]] = {name: [] for name, it in peers.items() if it.messages}
@@ -177,7 +197,9 @@ def main() -> int:
             for name, many in python.items():
                 answers[name].append(from_python(folder, many, given.seconds))
     best = {name: max(it[0] for it in found) for name, found in answers.items()}
-    print("answers: the best run, what it is of the peer that it is compared with, processor at both ends (Python: the caller's)")
+    print(
+        "answers: the best run, what it is of the peer that it is compared with, processor at both ends (Python: the caller's)"
+    )
     for name, found in answers.items():
         print(line(name, found, best.get(PEERS[name].of if name in PEERS else "calls", 0)))
     print("messages of 64 KiB")

@@ -1,5 +1,5 @@
-/* A client of examples/udp_service.c: `udp_client HOST WORD [PORT]` prints the word reversed. Its node has a fresh number, so
- * it keeps no state, and several may run at once. */
+/* A client of examples/udp_service.c: `udp_client HOST WORD [PORT]` prints the word reversed. Its node has a fresh
+ * number, so it keeps no state, and several may run at once. */
 #include "deltat_udp.h"
 #include <stdio.h>
 #include <string.h>

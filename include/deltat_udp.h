@@ -104,7 +104,11 @@ enum dt_udp_event_kind {
     DT_UDP_EVENT_REPORT = 5,  /* `report`: one that options.report_kinds asks for */
     DT_UDP_EVENT_TOO_BIG = 6, /* a datagram of `len` octets to `peer` doesn't fit the path: make
                                  params.seg smaller at all nodes */
-    DT_UDP_EVENT_FAILED = 7   /* the driver can't go on: `cause` is DT_NO_MEMORY, DT_SPENT, or DT_CLOSED
+    DT_UDP_EVENT_OBJECT = 7,  /* `object` of `peer`, whole: `octets` */
+    DT_UDP_EVENT_PUT = 8,     /* `object`, which was put, is over: `cause` is DT_DONE (the peer has it whole),
+                                 DT_FULL (the peer has no room for it) or DT_NOTHING (the time is over: the peer may
+                                 have it) */
+    DT_UDP_EVENT_FAILED = 9   /* the driver can't go on: `cause` is DT_NO_MEMORY, DT_SPENT, or DT_CLOSED
                                  (a forked child, or a system call that failed: `system_error`) */
 };
 
@@ -113,6 +117,7 @@ struct dt_udp_event {
     const uint8_t *octets;
     size_t len;
     uint64_t call;
+    uint64_t object;
     struct dt_token token;
     struct dt_flow flow;
     uint32_t peer;
@@ -142,8 +147,8 @@ struct dt_udp_counts {
 /* Returns the interface version of the library. Compare it with DT_UDP_ABI_VERSION first. */
 uint32_t dt_udp_abi_version(void);
 
-/* Draws a node number that nobody had, but by chance: from 65,536 to 4,294,967,295. Start it with DT_UDP_START_FIRST; it needs
- * no state folder. Returns 0 if the system has no random octets. */
+/* Draws a node number that nobody had, but by chance: from 65,536 to 4,294,967,295. Start it with DT_UDP_START_FIRST;
+ * it needs no state folder. Returns 0 if the system has no random octets. */
 uint32_t dt_udp_fresh_number(void);
 
 /* Opens a node or a service and binds its socket. Returns null if that fails, and `error` says why;
@@ -185,13 +190,38 @@ struct dt_sent dt_udp_send(dt_udp *udp, const struct dt_flow *flow, const void *
 
 /* Makes a call, which ends within `timeout_ms` by an event; of a service. As dt_call.
  *   DT_CLOSED  also: the driver is a node's, failed, or is in a forked child */
-struct dt_made dt_udp_call(dt_udp *udp, const struct dt_flow *flow, const void *octets, size_t len, uint32_t timeout_ms);
+struct dt_made dt_udp_call(dt_udp *udp, const struct dt_flow *flow, const void *octets, size_t len,
+                           uint32_t timeout_ms);
 
 /* Replies to a request, once; of a service. `octets` may be those of the event. As dt_reply. */
 struct dt_replied dt_udp_reply(dt_udp *udp, const struct dt_token *token, const void *octets, size_t len);
 
 /* Ends a request without a reply, so that there is room for another; of a service. As dt_forget. */
 uint8_t dt_udp_forget(dt_udp *udp, const struct dt_token *token);
+
+struct dt_udp_put_result {
+    uint64_t object; /* DT_DONE: its number, which no other object of any opening has, but by chance */
+    uint8_t status;
+};
+
+/* Opens ports `first_port` to `first_port` + `lanes` for objects, the same ports at both ends; of a node. Objects are
+ * sent over `lanes` flows at once: 16 to 64 if the way is long. `max_octets`: of objects that arrive, until they are taken.
+ *   DT_DONE
+ *   DT_HELD       done before, or one of the ports is open
+ *   DT_REFUSED    of a service, or the ports end beyond 65,535; nothing changed
+ *   DT_NO_MEMORY  some of the ports may be open
+ *   DT_SPENT, DT_CLOSED  the driver failed, or this is a forked child */
+uint8_t dt_udp_open_objects(dt_udp *udp, uint16_t first_port, uint16_t lanes, uint64_t max_octets);
+
+/* Sends an object of at most 2^32 - 1 octets to a node, whole, and at most once. The octets stay yours: keep them
+ * unchanged until DT_UDP_EVENT_PUT, which comes within `timeout_ms` and 2 mpl + r + a.
+ *   DT_DONE
+ *   DT_REFUSED    dt_udp_open_objects wasn't called, the target is this node, `len` is too great, or `timeout_ms` is 0
+ *   DT_NO_MEMORY  nothing changed
+ *   DT_SPENT, DT_CLOSED  the driver failed, or this is a forked child
+ * Cost: objects to one node are sent one after another; a target takes about 900 octets for each lane. */
+struct dt_udp_put_result dt_udp_put(dt_udp *udp, uint32_t target, const void *octets, uint64_t len,
+                                    uint32_t timeout_ms);
 
 /* Puts what is due and what was sent on the wire now. dt_udp_next does it too. */
 void dt_udp_flush(dt_udp *udp);

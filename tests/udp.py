@@ -1,12 +1,14 @@
 #!/usr/bin/env python3
 """The driver over UDP sockets, libdeltat-udp, with the address and undefined-behaviour sanitizers.
 
-`tests/udp.py [CASE ..]`; all cases where none is named. It builds lib/udp with tests/udp/*.c over lib/libdeltat.a and runs
-them as processes over 127.0.0.1, ::1 and `localhost`, under the driver's own wait, poll, epoll and GLib's loop; through a
-relay that loses 1 %; with an end that is killed and started again; in a forked child; over a path that is too narrow for a
-segment; and with strangers: ten thousand that come and go, one whose address changes, and forgers; and the state folder. Ends with 77 where there is no compiler or no archive; a case whose tool is missing says so.
+`tests/udp.py [CASE ..]`; all cases where none is named. It builds lib/udp with tests/udp/*.c over lib/libdeltat.a and
+runs them as processes over 127.0.0.1, ::1 and `localhost`, under the driver's own wait, poll, epoll and GLib's loop;
+through a relay that loses 1 %; with an end that is killed and started again; in a forked child; over a path that is
+too narrow for a segment; and with strangers: ten thousand that come and go, one whose address changes, and forgers;
+the state folder; and objects. Ends with 77 where there is no compiler or no archive; a case whose tool is missing
+says so.
 
-In tests/all: no words, 600 s."""
+In tests/all: no words, 1200 s."""
 import argparse
 import os
 import pathlib
@@ -41,7 +43,9 @@ class Built:
     def __init__(self, folder: pathlib.Path) -> None:
         self.folder = folder
         self.done: dict[str, pathlib.Path] = {}
-        glib = subprocess.run(["pkg-config", "--cflags", "--libs", "glib-2.0"], capture_output=True, text=True, check=False)
+        glib = subprocess.run(
+            ["pkg-config", "--cflags", "--libs", "glib-2.0"], capture_output=True, text=True, check=False
+        )
         self.glib = glib.stdout.split() if glib.returncode == 0 else None
 
     def __call__(self, name: str, plain: bool = False) -> str:
@@ -53,7 +57,9 @@ class Built:
             self.done[key] = self.compiled(key, [HERE / f"{name}.c"], flags, more)
         return str(self.done[key])
 
-    def compiled(self, key: str, sources: list[pathlib.Path], flags: Sequence[str] = FLAGS, more: Sequence[str] = ()) -> pathlib.Path:
+    def compiled(
+        self, key: str, sources: list[pathlib.Path], flags: Sequence[str] = FLAGS, more: Sequence[str] = ()
+    ) -> pathlib.Path:
         """A program of these sources, the driver and the library."""
         out = self.folder / key
         self.run([*flags, *map(str, sources), *self.driver(flags), str(ARCHIVE), *more, "-o", str(out)])
@@ -187,8 +193,17 @@ def examples(built: Built, folder: pathlib.Path) -> str:
         with subprocess.Popen([programs["udp_service"], port, str(folder / "node-2")]) as service:
             time.sleep(0.5 if start == 0 else 2.5)  # (it is silent after its second start)
             for host in ("127.0.0.1", "::1", "localhost"):
-                ran = subprocess.run([programs["udp_client"], host, f"hello {host}", port], capture_output=True, text=True, timeout=PATIENCE, check=False)
-                wants(ran.stdout == f"hello {host}"[::-1] + "\n" and ran.returncode == 0, f"{host}: {ran.stdout}{ran.stderr}")
+                ran = subprocess.run(
+                    [programs["udp_client"], host, f"hello {host}", port],
+                    capture_output=True,
+                    text=True,
+                    timeout=PATIENCE,
+                    check=False,
+                )
+                wants(
+                    ran.stdout == f"hello {host}"[::-1] + "\n" and ran.returncode == 0,
+                    f"{host}: {ran.stdout}{ran.stderr}",
+                )
             service.kill()
     return "over 127.0.0.1, ::1 and localhost; again after a kill"
 
@@ -199,11 +214,35 @@ def loops(built: Built, folder: pathlib.Path) -> str:
     ran = 0
     for hosting in hosts:
         for loop in built.loops():
-            for serve, ask, keys in (("serve", "ask", {"count": 300, "many": 8}), ("echo", "say", {"count": 30, "octets": 60000})):
+            for serve, ask, keys in (
+                ("serve", "ask", {"count": 300, "many": 8}),
+                ("echo", "say", {"count": 30, "octets": 60000}),
+            ):
                 ports = free_port(), free_port()
                 address = hosting.get("host", "localhost")
-                server = End(built("ends"), serve, loop, **hosting, port=ports[0], node=2, peer=1, peer_host=address, peer_port=ports[1])
-                client = End(built("ends"), ask, loop, **hosting, port=ports[1], node=1, peer=2, peer_host=address, peer_port=ports[0], **keys)
+                server = End(
+                    built("ends"),
+                    serve,
+                    loop,
+                    **hosting,
+                    port=ports[0],
+                    node=2,
+                    peer=1,
+                    peer_host=address,
+                    peer_port=ports[1],
+                )
+                client = End(
+                    built("ends"),
+                    ask,
+                    loop,
+                    **hosting,
+                    port=ports[1],
+                    node=1,
+                    peer=2,
+                    peer_host=address,
+                    peer_port=ports[0],
+                    **keys,
+                )
                 found = figures(client.ended())
                 wants(found.get("answered", found.get("echoed")) == keys["count"], f"{loop} over {address}: {found}")
                 wants(figures(server.stop())["unknown"] == 0, "no datagram was from a stranger")
@@ -215,12 +254,29 @@ def switches(built: Built, folder: pathlib.Path) -> str:
     """Kernels without segments, batches and stamps."""
     for flags in (1, 2, 3, 4, 7):
         ports = free_port(), free_port()
-        server = End(built("ends"), "echo", "next", host=HOST, port=ports[0], node=2, peer=1, peer_port=ports[1], flags=flags)
-        client = End(built("ends"), "say", "poll", host=HOST, port=ports[1], node=1, peer=2, peer_port=ports[0], flags=flags, count=20, octets=60000)
+        server = End(
+            built("ends"), "echo", "next", host=HOST, port=ports[0], node=2, peer=1, peer_port=ports[1], flags=flags
+        )
+        client = End(
+            built("ends"),
+            "say",
+            "poll",
+            host=HOST,
+            port=ports[1],
+            node=1,
+            peer=2,
+            peer_port=ports[0],
+            flags=flags,
+            count=20,
+            octets=60000,
+        )
         found = figures(client.ended())
         wants(found["echoed"] == 20, f"flags {flags}: {found}")
         alone = flags & 1
-        wants((found["writes"] > found["out"] // 4) == bool(flags & 2 and alone), f"flags {flags}: {found['writes']} writes for {found['out']} datagrams")
+        wants(
+            (found["writes"] > found["out"] // 4) == bool(flags & 2 and alone),
+            f"flags {flags}: {found['writes']} writes for {found['out']} datagrams",
+        )
         server.stop()
     return "5 sets of flags"
 
@@ -231,7 +287,18 @@ def every_address(built: Built, folder: pathlib.Path) -> str:
     for address in ("127.0.0.5", "127.0.0.1", "::1"):
         own = "::1" if ":" in address else HOST
         server = End(built("ends"), "serve", "next", port=ports[0], node=2, peer=1, peer_host=own, peer_port=ports[1])
-        client = End(built("ends"), "ask", "next", host=own, port=ports[1], node=1, peer=2, peer_host=address, peer_port=ports[0], count=20)
+        client = End(
+            built("ends"),
+            "ask",
+            "next",
+            host=own,
+            port=ports[1],
+            node=1,
+            peer=2,
+            peer_host=address,
+            peer_port=ports[0],
+            count=20,
+        )
         wants(figures(client.ended())["answered"] == 20, f"asked at {address}")
         server.stop()
     return "3 addresses of one socket"
@@ -242,8 +309,21 @@ def loss(built: Built, folder: pathlib.Path) -> str:
     server_port, log = free_port(), folder / "loss.log"
     relay = Relay(0.01, server_port)
     relay.start()
-    server = End(built("ends"), "serve", "epoll", host=HOST, port=server_port, node=2, peer=1, peer_port=relay.far_port, log=log)
-    client = End(built("ends"), "ask", "next", host=HOST, node=1, peer=2, peer_port=relay.near_port, count=3000, many=16, timeout=20000)
+    server = End(
+        built("ends"), "serve", "epoll", host=HOST, port=server_port, node=2, peer=1, peer_port=relay.far_port, log=log
+    )
+    client = End(
+        built("ends"),
+        "ask",
+        "next",
+        host=HOST,
+        node=1,
+        peer=2,
+        peer_port=relay.near_port,
+        count=3000,
+        many=16,
+        timeout=20000,
+    )
     found = figures(client.ended())
     server.stop()
     relay.over = True
@@ -259,10 +339,34 @@ def killed(built: Built, folder: pathlib.Path) -> str:
     ports, log = (free_port(), free_port()), folder / "killed.log"
 
     def service(life: int) -> End:
-        return End(built("ends"), "serve", "next", host=HOST, port=ports[0], node=2, peer=1, peer_port=ports[1], life=life, again=int(life > 1), log=log)
+        return End(
+            built("ends"),
+            "serve",
+            "next",
+            host=HOST,
+            port=ports[0],
+            node=2,
+            peer=1,
+            peer_port=ports[1],
+            life=life,
+            again=int(life > 1),
+            log=log,
+        )
 
     server = service(1)
-    client = End(built("ends"), "ask", "poll", host=HOST, port=ports[1], node=1, peer=2, peer_port=ports[0], count=30000, many=4, timeout=8000)
+    client = End(
+        built("ends"),
+        "ask",
+        "poll",
+        host=HOST,
+        port=ports[1],
+        node=1,
+        peer=2,
+        peer_port=ports[0],
+        count=30000,
+        many=4,
+        timeout=8000,
+    )
     for life in range(2, 7):
         time.sleep(0.4)
         server.kill()
@@ -272,13 +376,22 @@ def killed(built: Built, folder: pathlib.Path) -> str:
     server.stop()
     served = log.read_text().split()
     wants(found["answered"] + found["unsure"] == 30000 and found["wrong"] == 0 and found["declined"] == 0, str(found))
-    wants(len(served) == len(set(served)) and len(served) >= found["answered"], "each answered request is served, and none twice")
+    wants(
+        len(served) == len(set(served)) and len(served) >= found["answered"],
+        "each answered request is served, and none twice",
+    )
     return f"{found['answered']} answered, {found['unsure']} unsure, {len(served)} served, none twice"
 
 
 def forked(built: Built, folder: pathlib.Path) -> str:
     """A forked child is refused, and its parent goes on."""
-    ran = subprocess.run([built("forked"), str(free_port()), str(free_port())], capture_output=True, text=True, timeout=PATIENCE, check=False)
+    ran = subprocess.run(
+        [built("forked"), str(free_port()), str(free_port())],
+        capture_output=True,
+        text=True,
+        timeout=PATIENCE,
+        check=False,
+    )
     wants(ran.returncode == 0 and ran.stdout.split() == ["refused", "answered"], ran.stdout + ran.stderr)
     return "the child is refused"
 
@@ -295,11 +408,19 @@ def narrow(built: Built, folder: pathlib.Path) -> str:
     said = []
     for octets, seg in ((1400, 1442), (1400, 1242), (60000, 1442), (60000, 1242)):
         text = script.format(ends=built("ends"), octets=octets, seg=seg)
-        ran = subprocess.run(["unshare", "--net", "bash", "-ec", text], capture_output=True, text=True, timeout=PATIENCE, check=False)
+        ran = subprocess.run(
+            ["unshare", "--net", "bash", "-ec", text], capture_output=True, text=True, timeout=PATIENCE, check=False
+        )
         wants(ran.returncode == 0, ran.stdout + ran.stderr)
         said.append(ran.stdout)
-    wants("too big: 1438 octets to 2" in said[0] and "too big: 1472 octets to 2" in said[2], f"too long: {said[0]}{said[2]}")
-    wants(all(figures(it)["answered"] == 20 and figures(it)["too_big"] == 0 for it in (said[1], said[3])), f"short enough: {said[1]}{said[3]}")
+    wants(
+        "too big: 1438 octets to 2" in said[0] and "too big: 1472 octets to 2" in said[2],
+        f"too long: {said[0]}{said[2]}",
+    )
+    wants(
+        all(figures(it)["answered"] == 20 and figures(it)["too_big"] == 0 for it in (said[1], said[3])),
+        f"short enough: {said[1]}{said[3]}",
+    )
     return "an MTU of 1,300"
 
 
@@ -323,7 +444,10 @@ def learnt(built: Built, folder: pathlib.Path) -> str:
     found = figures(server.stop())
     served = log.read_text().split()
     wants(said == {"answered": 10000, "unsure": 0, "wrong": 0}, str(said))
-    wants(len(served) == len(set(served)) == 10000, f"{len(served)} requests were served, {len(set(served))} of them different")
+    wants(
+        len(served) == len(set(served)) == 10000,
+        f"{len(served)} requests were served, {len(set(served))} of them different",
+    )
     wants(found["learnt"] >= 10000 and found["forgotten"] >= 4000, str(found))
     wants(sizes[-1] - sizes[2] < 6144, f"the service grew: {sizes} KiB")
     return f"10,000 clients, {sizes[0]} to {sizes[-1]} KiB resident, {found['challenges']} challenges"
@@ -335,7 +459,20 @@ def rebinds(built: Built, folder: pathlib.Path) -> str:
     relay = Relay(0.0, server.port)
     relay.start()
     log = folder / "rebinds.log"
-    client = End(built("ends"), "ask", "next", host=HOST, node=1, peer=2, peer_port=relay.near_port, count=4000, many=1, timeout=20000, pause=1, log=log)
+    client = End(
+        built("ends"),
+        "ask",
+        "next",
+        host=HOST,
+        node=1,
+        peer=2,
+        peer_port=relay.near_port,
+        count=4000,
+        many=1,
+        timeout=20000,
+        pause=1,
+        log=log,
+    )
     for _ in range(5):
         time.sleep(1.2)
         relay.rebind()
@@ -362,9 +499,17 @@ class Stranger:
     def frame(self, port: int = 20, flags: int = 7, kind: int = 1) -> None:
         """A request to node 2, the next of its flow."""
         payload = (1 << 32 | self.number).to_bytes(8, "big") + b"hello"
-        packet = bytes([kind, flags if self.number == 0 else flags & 6]) + (10).to_bytes(2, "big") + port.to_bytes(2, "big")
+        packet = (
+            bytes([kind, flags if self.number == 0 else flags & 6]) + (10).to_bytes(2, "big") + port.to_bytes(2, "big")
+        )
         packet += (13 * self.number).to_bytes(4, "big") + bytes(4) + payload
-        header = bytes([1, 1]) + len(packet).to_bytes(2, "big") + (482).to_bytes(4, "big") + self.node.to_bytes(4, "big") + (2).to_bytes(4, "big")
+        header = (
+            bytes([1, 1])
+            + len(packet).to_bytes(2, "big")
+            + (482).to_bytes(4, "big")
+            + self.node.to_bytes(4, "big")
+            + (2).to_bytes(4, "big")
+        )
         self.sent += self.socket.send(header + packet)
 
     def proof(self, challenge: bytes, node: int | None = None) -> None:
@@ -399,12 +544,17 @@ def forgers(built: Built, folder: pathlib.Path) -> str:
     """Strangers who don't hear at their address, who aren't who they say, or who speak to closed ports."""
     log, own = folder / "forgers.log", socket.socket(socket.AF_INET, socket.SOCK_DGRAM)
     own.bind((HOST, 0))
-    server = End(built("ends"), "serve", "poll", host=HOST, node=2, learns=10, peer=77, peer_port=own.getsockname()[1], log=log)
+    server = End(
+        built("ends"), "serve", "poll", host=HOST, node=2, learns=10, peer=77, peer_port=own.getsockname()[1], log=log
+    )
     one, other = Stranger(server.port, 500), Stranger(server.port, 500, key=2)
     for _ in range(300):
         one.frame()
     answers = one.answers()
-    wants(answers and all(it[:3] == bytes([208, 1, 1]) for it in answers) and one.heard <= one.sent, "a stranger is answered by challenges, no longer than what it sent")
+    wants(
+        answers and all(it[:3] == bytes([208, 1, 1]) for it in answers) and one.heard <= one.sent,
+        "a stranger is answered by challenges, no longer than what it sent",
+    )
     challenge = one.challenged()
     one.proof(challenge[:12] + bytes([challenge[12] ^ 1]) + challenge[13:])
     one.challenged()
@@ -426,7 +576,9 @@ def forgers(built: Built, folder: pathlib.Path) -> str:
     configured.proof(challenge, 77)
     configured.frame()
     closed.frame(port=21)
-    wants(configured.answers() == [] and closed.answers() == [], "a configured number and a closed port aren't answered")
+    wants(
+        configured.answers() == [] and closed.answers() == [], "a configured number and a closed port aren't answered"
+    )
     found = figures(server.stop())
     wants(found["learnt"] == 1 and found["moved"] == 1 and len(log.read_text().split()) == 3, f"{found}")
     return f"{found['challenges']} challenges"
@@ -438,7 +590,21 @@ def state(built: Built, folder: pathlib.Path) -> str:
     server = End(program, "serve", "next", host=HOST, node=2, learns=10)
 
     def begin(**keys: object) -> End:
-        return End(program, "ask", "next", **{"host": HOST, "node": 1, "peer": 2, "peer_port": server.port, "count": 10**6, "state": place, "timeout": 20000, **keys})
+        return End(
+            program,
+            "ask",
+            "next",
+            **{
+                "host": HOST,
+                "node": 1,
+                "peer": 2,
+                "peer_port": server.port,
+                "count": 10**6,
+                "state": place,
+                "timeout": 20000,
+                **keys,
+            },
+        )
 
     def refused(**keys: object) -> str:
         try:
@@ -455,15 +621,25 @@ def state(built: Built, folder: pathlib.Path) -> str:
 
     client = begin()
     wants((client.life, client.silent) == (1, 0), "the first start")
-    wants((place / "state").read_text() == checked("deltat state 1\nnode 1\nparams 482 450 5 90 180 1442 65536 65536 65536 2147483648 0\nlife 1\n"), "the form of state")
+    wants(
+        (place / "state").read_text()
+        == checked("deltat state 1\nnode 1\nparams 482 450 5 90 180 1442 65536 65536 65536 2147483648 0\nlife 1\n"),
+        "the form of state",
+    )
     wants(f"is in use by process {client.process.pid};" in refused(), "a second process is refused")
     time.sleep(1)
     wants(until() >= boottime() - 50, "what is promised is ahead")
     client.kill()
-    wants(last() == checked("".join(last().splitlines(keepends=True)[:4])) and len(last()) == 125, f"the form of last: {last()}")
+    wants(
+        last() == checked("".join(last().splitlines(keepends=True)[:4])) and len(last()) == 125,
+        f"the form of last: {last()}",
+    )
     begun = boottime()
     client = begin(count=1)
-    wants(client.life == 2 and quiet - (boottime() - begun) - 20 <= client.silent <= quiet + quiet // 4, f"after a kill: {client.silent}")
+    wants(
+        client.life == 2 and quiet - (boottime() - begun) - 20 <= client.silent <= quiet + quiet // 4,
+        f"after a kill: {client.silent}",
+    )
     wants(figures(client.ended())["answered"] == 1, "after the silence calls are answered")
     ended = until()
     wants(ended <= boottime(), "a node that is closed promises nothing ahead")
@@ -472,7 +648,10 @@ def state(built: Built, folder: pathlib.Path) -> str:
     wants(client.life == 3 and client.silent <= quiet - 500, f"the rest of the silence alone: {client.silent}")
     client.ended()
     wants(until() == ended, "a start that is ended in its silence doesn't begin it anew")
-    wants("of node 1, and this is node 3" in refused(node=3) and "other parameters" in refused(r=451), "other nodes and other parameters")
+    wants(
+        "of node 1, and this is node 3" in refused(node=3) and "other parameters" in refused(r=451),
+        "other nodes and other parameters",
+    )
     client = begin(count=0, r=451, flags=16)
     wants(client.life == 4 and client.silent > 1800, "parameters that were changed")
     client.ended()
@@ -484,7 +663,14 @@ def state(built: Built, folder: pathlib.Path) -> str:
     wants(client.life > 1 << 31 and (place / "state.damaged").exists(), f"a life that is drawn: {client.life}")
     client = begin(count=1, r=451)
     client.ended()
-    (place / "last").write_text(checked("\n".join(last().splitlines()[:4]).replace(re.search("boot (.*)", last())[1], "1" * 8 + "-1111-1111-1111-" + "1" * 12) + "\n"))
+    (place / "last").write_text(
+        checked(
+            "\n".join(last().splitlines()[:4]).replace(
+                re.search("boot (.*)", last())[1], "1" * 8 + "-1111-1111-1111-" + "1" * 12
+            )
+            + "\n"
+        )
+    )
     time.sleep(1)
     client = begin(count=0, r=451)
     wants(client.silent > 1800, f"before the machine started: {client.silent}")
@@ -493,7 +679,57 @@ def state(built: Built, folder: pathlib.Path) -> str:
     return f"lives 1 to {client.life}"
 
 
-CASES: list[Callable[[Built, pathlib.Path], str]] = [examples, loops, switches, every_address, loss, killed, forked, narrow, learnt, rebinds, forgers, state]
+def objects(built: Built, folder: pathlib.Path) -> str:
+    """Objects of every size arrive whole, once, and are those that were sent, at 0 and 1 % loss; one too great is refused."""
+    log, taken = folder / "objects.log", 0
+    with subprocess.Popen(
+        [built("objects"), "take", HOST, "0", "8", "5000000", str(log)], stdout=subprocess.PIPE, text=True
+    ) as taker:
+        port = int(taker.stdout.readline().split()[1])
+        relay = Relay(0.01, port)
+        relay.start()
+        for way in (port, relay.near_port):
+            for octets, count in ((0, 2), (1, 2), (6971, 2), (6972, 2), (6973, 2), (500000, 2), (50000, -10)):
+                words = [built("objects"), "put", HOST, str(way), "8", str(octets), str(count)]
+                ran = subprocess.run(words, capture_output=True, text=True, timeout=2 * PATIENCE, check=True)
+                wants(
+                    [it.split()[0] for it in ran.stdout.splitlines()] == ["put"] * abs(count),
+                    f"{octets} octets: {ran.stdout}",
+                )
+                taken += abs(count)
+        ran = subprocess.run(
+            [built("objects"), "put", HOST, str(port), "8", "5000001", "1"],
+            capture_output=True,
+            text=True,
+            timeout=PATIENCE,
+            check=True,
+        )
+        wants(ran.stdout.startswith("full "), f"too great: {ran.stdout}")
+        relay.over = True
+        time.sleep(0.3)
+        taker.send_signal(signal.SIGTERM)
+        wants(taker.wait(PATIENCE) == 0, "the taker ends well")
+    found = [it.split() for it in log.read_text().splitlines()]
+    wants(all(it[0] == "whole" for it in found), "an object isn't what was sent")
+    wants(len({it[1] for it in found}) == len(found) == taken, f"{len(found)} objects were taken, of {taken}")
+    return f"{taken} objects, {relay.lost} datagrams lost"
+
+
+CASES: list[Callable[[Built, pathlib.Path], str]] = [
+    examples,
+    loops,
+    switches,
+    every_address,
+    loss,
+    killed,
+    forked,
+    narrow,
+    learnt,
+    rebinds,
+    forgers,
+    state,
+    objects,
+]
 
 
 def main() -> int:

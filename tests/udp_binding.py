@@ -1,8 +1,9 @@
 #!/usr/bin/env python3
-"""The Python module over the driver, bindings/python/deltat_udp.py: calls, messages, asyncio, and each error as an exception.
+"""The Python module over the driver, bindings/python/deltat_udp.py: calls, messages, asyncio, and each error as an
+exception.
 
-`tests/udp_binding.py [CASE ..]`; all cases where none is named. Both ends are processes or drivers of this one. Ends with 77
-where lib/libdeltat.so.0 or lib/libdeltat-udp.so.0 isn't there (make -C lib).
+`tests/udp_binding.py [CASE ..]`; all cases where none is named. Both ends are processes or drivers of this one. Ends
+with 77 where lib/libdeltat.so.0 or lib/libdeltat-udp.so.0 isn't there (make -C lib).
 
 In tests/all: no words, 180 s."""
 import argparse
@@ -121,12 +122,17 @@ def calls() -> str:
             wants(made.call(flow, payload) == payload[::-1], f"{size} octets")
         other = flow._replace(target_port=OTHER)
         wants(made.call(other, b"xx") == b"yes", "the other port")
-        wants(raises(Unsure, lambda: made.call(other, b"x", patience=0.3)).cause == Cause.PATIENCE, "a forgotten request")
+        wants(
+            raises(Unsure, lambda: made.call(other, b"x", patience=0.3)).cause == Cause.PATIENCE, "a forgotten request"
+        )
         nobody = flow._replace(target=3)
         wants(raises(Unsure, lambda: made.call(nobody, b"x", patience=0.3)).cause == Cause.PATIENCE, "nobody is there")
         raises(deltat.BadParameter, lambda: made.call(flow, bytes(70000)))
         raises(deltat.BadParameter, lambda: made.call(flow._replace(source_port=11), b"x"))
-        raises(Declined, lambda: [made.udp and deltat_udp._made(udp, made._flows(nobody), bytes(30000), 100) for _ in range(9)])
+        raises(
+            Declined,
+            lambda: [made.udp and deltat_udp._made(udp, made._flows(nobody), bytes(30000), 100) for _ in range(9)],
+        )
         wants(udp.drain(5.0), "all is acknowledged or uncertain")
     raises(deltat.Spent, lambda: made.call(flow, b"x"))
     return "answers, Unsure, Declined, BadParameter, Spent"

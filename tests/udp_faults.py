@@ -1,12 +1,12 @@
 #!/usr/bin/env python3
 """Each system call of the driver over UDP fails, once at each of its first calls: by `strace --inject`.
 
-`tests/udp_faults.py [CALL ..]`; all calls where none is named. A client of tests/udp/ends.c makes calls to a service while one
-of its system calls fails. Then all its calls are answered; or it isn't opened, and one line says why; or it gets a failure
-as an event, with the error of that call. It never hangs, crashes, or takes a wrong answer. Ends with 77 where there is no
-strace, no compiler or no archive.
+`tests/udp_faults.py [CALL ..]`; all calls where none is named. A client of tests/udp/ends.c makes calls to a service
+while one of its system calls fails. Then all its calls are answered; or it isn't opened, and one line says why; or it
+gets a failure as an event, with the error of that call. It never hangs, crashes, or takes a wrong answer. Ends with
+77 where there is no strace, no compiler or no archive.
 
-In tests/all: no words, 600 s."""
+In tests/all: no words, 1200 s."""
 import argparse
 import pathlib
 import re
@@ -80,7 +80,11 @@ def outcome(ran: "subprocess.CompletedProcess[str]", count: int, fault_of_loader
         return REFUSED
     if ran.returncode == 3 and re.fullmatch(r"ends: failed: status \d+, [^\n]+\n", ran.stderr):
         return FAILED
-    if ran.returncode == 127 or "error while loading" in ran.stderr or (fault_of_loader and ran.returncode == -11 and not ran.stdout + ran.stderr):
+    if (
+        ran.returncode == 127
+        or "error while loading" in ran.stderr
+        or (fault_of_loader and ran.returncode == -11 and not ran.stdout + ran.stderr)
+    ):
         return "not begun"
     return f"status {ran.returncode}: {ran.stdout[-300:]}{ran.stderr[-300:]}"
 
@@ -91,8 +95,26 @@ def tried(fault: Fault, error: str, at: int, program: str, port: int, folder: pa
     if keys.get("state"):
         keys["state"] = folder / f"state-{time.monotonic_ns()}" / "of" / "client"
     node = 1000 + time.monotonic_ns() % 1_000_000
-    words = ["strace", "-qq", "-o", "/dev/null", "-e", f"trace={fault.call}", "-e", f"inject={fault.call}:error={error}:when={at}"]
-    words += [program, "ask", fault.loop, f"host={HOST}", f"node={node}", "peer=2", f"peer_port={port}", *(f"{key}={value}" for key, value in keys.items())]
+    words = [
+        "strace",
+        "-qq",
+        "-o",
+        "/dev/null",
+        "-e",
+        f"trace={fault.call}",
+        "-e",
+        f"inject={fault.call}:error={error}:when={at}",
+    ]
+    words += [
+        program,
+        "ask",
+        fault.loop,
+        f"host={HOST}",
+        f"node={node}",
+        "peer=2",
+        f"peer_port={port}",
+        *(f"{key}={value}" for key, value in keys.items()),
+    ]
     try:
         ran = subprocess.run(words, capture_output=True, text=True, timeout=udp.PATIENCE, check=False)
     except subprocess.TimeoutExpired:
@@ -124,7 +146,10 @@ def main() -> int:
                     if found not in fault.ends:
                         wrong += 1
                         print(f"{fault.call} {at}, {error}, {fault.loop}: {found}", flush=True)
-            print(f"{fault.call} ({fault.errors}): {', '.join(f'{count} {end}' for end, count in seen.items())}", flush=True)
+            print(
+                f"{fault.call} ({fault.errors}): {', '.join(f'{count} {end}' for end, count in seen.items())}",
+                flush=True,
+            )
         server.stop()
     print(f"{ran} runs, {wrong} wrong")
     return 1 if wrong else 0

@@ -1,10 +1,10 @@
 #!/usr/bin/env python3
 """Any octets as datagrams of the driver over UDP, with the address and undefined-behaviour sanitizers: tests/udp/fuzz.c.
 
-`tests/udp_fuzz.py [--seconds S] [--seed N] [--keep FOLDER] [--input FILE]`. With a clang that has libFuzzer it draws the
-inputs, and keeps those that reach other code of the driver; else they are drawn by chance. Ends with 1 where an input
-fails, which is kept in a folder that is named; with 77 where there is no compiler or no archive. Before that the checks
-have to find fault with a driver that answers strangers with frames.
+`tests/udp_fuzz.py [--seconds S] [--seed N] [--keep FOLDER] [--input FILE]`. With a clang that has libFuzzer it draws
+the inputs, and keeps those that reach other code of the driver; else they are drawn by chance. Ends with 1 where an
+input fails, which is kept in a folder that is named; with 77 where there is no compiler or no archive. Before that
+the checks have to find fault with a driver that answers strangers with frames.
 
 In tests/all: --seconds 60, 300 s."""
 import argparse
@@ -20,11 +20,24 @@ from lib import TOP, skip
 
 FUZZ = TOP / "tests" / "udp" / "fuzz.c"
 ARCHIVE = TOP / "lib" / "libdeltat.a"
-FLAGS = ["-std=c11", "-D_GNU_SOURCE", "-Wall", "-Wextra", "-Werror", "-O1", "-g", f"-I{TOP / 'include'}", "-fno-sanitize-recover=all"]
+FLAGS = [
+    "-std=c11",
+    "-D_GNU_SOURCE",
+    "-Wall",
+    "-Wextra",
+    "-Werror",
+    "-O1",
+    "-g",
+    f"-I{TOP / 'include'}",
+    "-fno-sanitize-recover=all",
+]
 # the inputs by chance in one process, and those until a spoilt driver is found
 EACH, ENOUGH = 500, 3000
 # what spoils the driver: a stranger's datagram is passed in as if its maker were known
-SPOILT = ("if (u->strangers.proofs == NULL || !is_plausible(u, it, peer)) {", "(void)is_plausible; keep(u, it, peer, &(struct proof){.node = it->maker}); if (true) {")
+SPOILT = (
+    "if (u->strangers.proofs == NULL || !is_plausible(u, it, peer)) {",
+    "(void)is_plausible; keep(u, it, peer, &(struct proof){.node = it->maker}); if (true) {",
+)
 
 
 def built(words: list[str], out: pathlib.Path) -> pathlib.Path:
@@ -49,14 +62,29 @@ def sources(folder: pathlib.Path, spoilt: bool = False) -> list[str]:
 
 def alone(compiler: str, folder: pathlib.Path, spoilt: bool = False) -> pathlib.Path:
     """The program with a main of its own."""
-    words = [compiler, *FLAGS, "-DALONE", "-fsanitize=address,undefined", f"-I{TOP / 'lib' / 'udp'}", str(FUZZ), *sources(folder, spoilt), str(ARCHIVE)]
+    words = [
+        compiler,
+        *FLAGS,
+        "-DALONE",
+        "-fsanitize=address,undefined",
+        f"-I{TOP / 'lib' / 'udp'}",
+        str(FUZZ),
+        *sources(folder, spoilt),
+        str(ARCHIVE),
+    ]
     return built(words, folder / ("spoilt" if spoilt else "alone"))
 
 
 def by_chance(program: pathlib.Path, seconds: float, seed: int) -> int:
     begun, tried = time.monotonic(), 0
     while time.monotonic() - begun < seconds:
-        ran = subprocess.run([str(program), "--count", str(EACH), "--seed", str(seed + tried)], capture_output=True, text=True, timeout=300, check=False)
+        ran = subprocess.run(
+            [str(program), "--count", str(EACH), "--seed", str(seed + tried)],
+            capture_output=True,
+            text=True,
+            timeout=300,
+            check=False,
+        )
         if ran.returncode:
             print(f"{ran.stderr[-3000:]}\nan input of fuzz --count {EACH} --seed {seed + tried} fails")
             return 1
@@ -66,17 +94,36 @@ def by_chance(program: pathlib.Path, seconds: float, seed: int) -> int:
 
 
 def by_coverage(folder: pathlib.Path, given: argparse.Namespace) -> int:
-    words = ["clang", *FLAGS, "-fsanitize=fuzzer,address,undefined", f"-I{TOP / 'lib' / 'udp'}", str(FUZZ), *sources(folder), str(ARCHIVE)]
+    words = [
+        "clang",
+        *FLAGS,
+        "-fsanitize=fuzzer,address,undefined",
+        f"-I{TOP / 'lib' / 'udp'}",
+        str(FUZZ),
+        *sources(folder),
+        str(ARCHIVE),
+    ]
     program = built(words, folder / "fuzz")
     kept = given.keep or pathlib.Path(tempfile.mkdtemp(prefix="deltat-udp-fuzz-"))
     kept.mkdir(parents=True, exist_ok=True)
     (folder / "corpus").mkdir()
-    options = [f"-max_total_time={given.seconds:.0f}", f"-seed={given.seed}", "-max_len=2000", "-len_control=0", "-print_final_stats=1", f"-artifact_prefix={kept}/"]
-    ran = subprocess.run([str(program), *options, str(folder / "corpus")], capture_output=True, text=True, errors="replace", check=False)
+    options = [
+        f"-max_total_time={given.seconds:.0f}",
+        f"-seed={given.seed}",
+        "-max_len=2000",
+        "-len_control=0",
+        "-print_final_stats=1",
+        f"-artifact_prefix={kept}/",
+    ]
+    ran = subprocess.run(
+        [str(program), *options, str(folder / "corpus")], capture_output=True, text=True, errors="replace", check=False
+    )
     stats = dict(re.findall(r"stat::(\w+): +(\d+)", ran.stderr))
     reached = re.findall(r"cov: (\d+) ft: (\d+) corp: (\d+)", ran.stderr) or [("0", "0", "0")]
-    print(f"{stats.get('number_of_executed_units', '?')} inputs in {given.seconds:.0f} s, {reached[-1][0]} branches, {reached[-1][2]} inputs kept, "
-          f"at most {stats.get('peak_rss_mb', '?')} MB")
+    print(
+        f"{stats.get('number_of_executed_units', '?')} inputs in {given.seconds:.0f} s, {reached[-1][0]} branches, {reached[-1][2]} inputs kept, "
+        f"at most {stats.get('peak_rss_mb', '?')} MB"
+    )
     if ran.returncode == 0 and not any(kept.iterdir()):
         kept.rmdir()
         return 0
@@ -102,8 +149,13 @@ def main() -> int:
         if subprocess.run(words, capture_output=True, timeout=250, check=False).returncode == 0:
             print("no fault is found with a driver that answers strangers")
             return 1
-        probe = subprocess.run([compiler, "-fsanitize=fuzzer", "-x", "c", "-", "-o", "/dev/null"], input="int LLVMFuzzerTestOneInput(const char *p, unsigned long n) { return p && n > 1 ? 0 : 0; }",
-                               capture_output=True, text=True, check=False)
+        probe = subprocess.run(
+            [compiler, "-fsanitize=fuzzer", "-x", "c", "-", "-o", "/dev/null"],
+            input="int LLVMFuzzerTestOneInput(const char *p, unsigned long n) { return p && n > 1 ? 0 : 0; }",
+            capture_output=True,
+            text=True,
+            check=False,
+        )
         if probe.returncode == 0:
             return by_coverage(folder, given)
         return by_chance(alone(compiler, folder), given.seconds, given.seed)

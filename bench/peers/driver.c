@@ -1,5 +1,5 @@
-/* The driver over UDP, libdeltat-udp, as a peer (peer.h). Environment: CALLS=1, calls of a service, else messages of a node;
- * FLAGS, those of dt_udp_options; MANY, so many requests under way at once of `answers`. */
+/* The driver over UDP, libdeltat-udp, as a peer (peer.h). Environment: CALLS=1, calls of a service, else messages of
+ * a node; FLAGS, those of dt_udp_options; MANY, so many requests under way at once of `answers`. */
 #include "deltat_udp.h"
 #include "peer.h"
 
@@ -19,10 +19,20 @@ struct end {
 static struct end opened(uint32_t node, const char *host, const char *port) {
     bool calls = setting("CALLS", 0);
     struct dt_udp_options options = {
-        .size = sizeof options, .node = node, .host = host, .port = port, .charge = 41, .max_peers = node == SERVER ? 64 : 0,
-        .params = {82, 20 * RTO_MS, 5, RTO_MS, 2 * RTO_MS, 1400, 65536, 65536, 65536, 2147483648u, 0}, .life = (uint32_t)time(NULL),
-        .start_as = DT_UDP_START_FIRST, .role = calls ? DT_UDP_ROLE_SERVICE : DT_UDP_ROLE_NODE, .flags = setting("FLAGS", 0) | DT_UDP_ALL_PORTS,
-        .max_calls = 2 * MOST_MANY, .max_requests = 2 * MOST_MANY, .max_requests_per_flow = 2 * MOST_MANY,
+        .size = sizeof options,
+        .node = node,
+        .host = host,
+        .port = port,
+        .charge = 41,
+        .max_peers = node == SERVER ? 64 : 0,
+        .params = {82, 20 * RTO_MS, 5, RTO_MS, 2 * RTO_MS, 1400, 65536, 65536, 65536, 2147483648u, 0},
+        .life = (uint32_t)time(NULL),
+        .start_as = DT_UDP_START_FIRST,
+        .role = calls ? DT_UDP_ROLE_SERVICE : DT_UDP_ROLE_NODE,
+        .flags = setting("FLAGS", 0) | DT_UDP_ALL_PORTS,
+        .max_calls = 2 * MOST_MANY,
+        .max_requests = 2 * MOST_MANY,
+        .max_requests_per_flow = 2 * MOST_MANY,
         .report_kinds = calls ? 0 : 1u << DT_UNCERTAIN};
     struct dt_udp_error error;
     struct end it = {dt_udp_open(&options, &error), node, calls};
@@ -49,7 +59,8 @@ static void serve(const char *address, int port) {
 }
 
 static bool asks(struct end *it, const struct dt_flow *flow, const unsigned char *octets, size_t len) {
-    uint8_t status = it->calls ? dt_udp_call(it->udp, flow, octets, len, 5000).status : dt_udp_send(it->udp, flow, octets, len).status;
+    uint8_t status = it->calls ? dt_udp_call(it->udp, flow, octets, len, 5000).status
+                               : dt_udp_send(it->udp, flow, octets, len).status;
     if (status == DT_REFUSED) fail("a request is refused");
     return status == DT_DONE;
 }
@@ -61,7 +72,8 @@ static bool exchange(struct end *it, uint32_t octets, double until) {
     bool answered = false, asked = false;
     double patience = 0.001 * 24 * RTO_MS, at = 0;
     while (!answered && now() < until) {
-        if (!asked || (!it->calls && now() - at > patience)) asked = asks(it, &flow, sent, HEAD + (size_t)octets), at = now();
+        if (!asked || (!it->calls && now() - at > patience))
+            asked = asks(it, &flow, sent, HEAD + (size_t)octets), at = now();
         const struct dt_udp_event *event = dt_udp_next(it->udp, asked ? 100 : 1);
         if (event->kind == DT_UDP_EVENT_FAILED) fail("the client failed");
         if (event->kind == DT_UDP_EVENT_UNSURE || event->kind == DT_UDP_EVENT_REPORT) asked = false;
@@ -88,7 +100,8 @@ static uint32_t answers_at_once(struct end *it, uint32_t octets, uint32_t many, 
         for (; event->kind != DT_UDP_EVENT_NONE && open > 0; event = dt_udp_next(it->udp, 0)) {
             if (event->kind == DT_UDP_EVENT_FAILED) fail("the client failed");
             if (event->kind == DT_UDP_EVENT_MESSAGE) open--, count++, is_open[event->flow.to_port - 100] = false;
-            if (event->kind == DT_UDP_EVENT_ANSWER || event->kind == DT_UDP_EVENT_UNSURE) open--, count += event->kind == DT_UDP_EVENT_ANSWER;
+            if (event->kind == DT_UDP_EVENT_ANSWER || event->kind == DT_UDP_EVENT_UNSURE)
+                open--, count += event->kind == DT_UDP_EVENT_ANSWER;
         }
     }
     free(sent);
@@ -101,13 +114,15 @@ static void ask(const char *address, int port, const struct question *it) {
     struct end end = opened(1000 + (uint32_t)getpid() % 60000, address, NULL);
     struct dt_udp_error error;
     if (dt_udp_peer(end.udp, SERVER, address, word, &error) != DT_DONE) fail(error.text);
-    uint32_t most = 65536 - HEAD - (end.calls ? 8 : 0), octets = it->octets > most ? most : it->octets, many = setting("MANY", 1), count = 0;
+    uint32_t most = 65536 - HEAD - (end.calls ? 8 : 0), octets = it->octets > most ? most : it->octets,
+             many = setting("MANY", 1), count = 0;
     double until = now() + it->seconds;
     if (!exchange(&end, NUMBER, until)) fail("nobody answers");
     double begun = now();
     if (strcmp(it->what, "answers") == 0) {
         if (many > 1) count = answers_at_once(&end, octets, many > MOST_MANY ? MOST_MANY : many, until);
-        else while (now() < until && exchange(&end, octets, until)) count++;
+        else
+            while (now() < until && exchange(&end, octets, until)) count++;
         done(count, now() - begun);
     }
     for (int i = 0; strcmp(it->what, "message") == 0 && i < it->count; i++, begun = now()) {

@@ -1,4 +1,4 @@
-"""Nodes and services over UDP, by the driver libdeltat-udp: fewer calls from Python, and several datagrams by one system call.
+"""Nodes and services over UDP, by the driver libdeltat-udp.
 
     params = deltat.Params(mpl=482, r=450, a=5, rto=90, probe=180, seg=1442, cap=65536, rcap=65536, window=65536)
     with deltat_udp.Udp(2, params, charge=294, port=4002, state="node-2", learns=1000, service=True) as udp:
@@ -11,17 +11,18 @@
 
         calls.run()
 
-    with deltat_udp.Udp(deltat_udp.fresh_number(), params, charge=294, first=True, service=True) as udp:
+    number = deltat_udp.fresh_number()
+    with deltat_udp.Udp(number, params, charge=294, first=True, service=True) as udp:
         udp.peer(2, "localhost", 4002)
         udp.open_port(10, Kind.CALLER)
-        answer = deltat_udp.Calls(udp).call(deltat.Flow(udp.node, 10, 2, 20), b"hello", patience=5.0)
+        answer = deltat_udp.Calls(udp).call(deltat.Flow(number, 10, 2, 20), b"hello", patience=5.0)
 
-`Udp` has the socket, the clock and the timer, and keeps the duties of include/deltat.h (docs/driver.md). Its plain loop is
-`poll` and iteration, as `deltat.Udp`'s; `Calls` and `AsyncCalls` are those of `deltat_service` over it. A driver is used by
-one thread at a time, and not by a forked child.
+`Udp` has the socket, the clock and the timer, and keeps the duties of include/deltat.h (docs/driver.md). Its plain
+loop is `poll` and iteration, as `deltat.Udp`'s; `Calls` and `AsyncCalls` are those of `deltat_service` over it. A
+driver is used by one thread at a time, and not by a forked child.
 
-The library is looked for at DELTAT_UDP_LIBRARY, if that is set, then as `libdeltat-udp.so.0` beside this file, in lib/ of
-the clone that has it, and in the system's places."""
+The library is looked for at DELTAT_UDP_LIBRARY, if that is set, then as `libdeltat-udp.so.0` beside this file, in
+lib/ of the clone that has it, and in the system's places."""
 
 from __future__ import annotations
 
@@ -37,20 +38,21 @@ from pathlib import Path
 
 import deltat
 from deltat import BadParameter, DeltatError, Flow, Full, Message, NoMemory, Params, Quiet, Spent, Status
-from deltat_service import Cause, Declined, Gone, Kind, Request, Token, Unsure
+from deltat_service import UNFIT, Cause, Declined, Gone, Kind, Request, Token, Unsure
 
 __all__ = ["AsyncCalls", "Calls", "Udp", "UdpError", "fresh_number"]
 
 ABI = 1
-_NONE, _MESSAGE, _REQUEST, _ANSWER, _UNSURE, _REPORT, _TOO_BIG, _FAILED = range(8)
-_MANY, _NUMBERS, _GONE = 16, 17, 18
+_NONE, _MESSAGE, _REQUEST, _ANSWER, _UNSURE, _REPORT, _TOO_BIG, _OBJECT, _PUT, _FAILED = range(10)
+_GONE = 18
+_DECLINED = {int(Status.QUIET): "quiet", int(Status.FULL): "full", 16: "many", 17: "numbers"}
 _KINDS = {Kind.CALLER: 1, Kind.SERVICE: 2}
 _CAUSES = {1: Cause.GIVEN_UP, 2: Cause.PATIENCE, 3: Cause.CLOSED}
 _ROLES = {False: 1, True: 2}
 
 
 class UdpError(DeltatError, OSError):
-    """The driver can't be opened, a name has no address, or a system call failed without which it can't go on."""
+    """The driver can't be opened, or a system call failed without which it can't go on."""
 
 
 # --- the driver's structs, in the order of include/deltat_udp.h
@@ -61,10 +63,26 @@ _FlowStruct, _ReportStruct = deltat._Flow, deltat._Report
 
 class _Options(ctypes.Structure):
     _fields_ = [
-        ("size", _U32), ("node", _U32), ("host", ctypes.c_char_p), ("port", ctypes.c_char_p), ("params", deltat._Params),
-        ("charge", _U32), ("pace", _U32), ("link", _U16), ("role", _U8), ("start_as", _U8), ("life", _U32),
-        ("state", ctypes.c_char_p), ("max_calls", _U32), ("max_requests", _U32), ("max_requests_per_flow", _U32),
-        ("max_message", _U32), ("max_queued", _U32), ("max_flows", _U32), ("max_peers", _U32), ("report_kinds", _U32),
+        ("size", _U32),
+        ("node", _U32),
+        ("host", ctypes.c_char_p),
+        ("port", ctypes.c_char_p),
+        ("params", deltat._Params),
+        ("charge", _U32),
+        ("pace", _U32),
+        ("link", _U16),
+        ("role", _U8),
+        ("start_as", _U8),
+        ("life", _U32),
+        ("state", ctypes.c_char_p),
+        ("max_calls", _U32),
+        ("max_requests", _U32),
+        ("max_requests_per_flow", _U32),
+        ("max_message", _U32),
+        ("max_queued", _U32),
+        ("max_flows", _U32),
+        ("max_peers", _U32),
+        ("report_kinds", _U32),
         ("flags", _U32),
     ]
 
@@ -79,9 +97,18 @@ class _TokenStruct(ctypes.Structure):
 
 class _Event(ctypes.Structure):
     _fields_ = [
-        ("octets", ctypes.c_void_p), ("len", ctypes.c_size_t), ("call", _U64), ("token", _TokenStruct),
-        ("flow", _FlowStruct), ("peer", _U32), ("system_error", ctypes.c_int32), ("kind", _U8), ("cause", _U8),
-        ("gap", ctypes.c_bool), ("report", _ReportStruct),
+        ("octets", ctypes.c_void_p),
+        ("len", ctypes.c_size_t),
+        ("call", _U64),
+        ("object", _U64),
+        ("token", _TokenStruct),
+        ("flow", _FlowStruct),
+        ("peer", _U32),
+        ("system_error", ctypes.c_int32),
+        ("kind", _U8),
+        ("cause", _U8),
+        ("gap", ctypes.c_bool),
+        ("report", _ReportStruct),
     ]
 
 
@@ -153,22 +180,43 @@ class Udp:
     """A node, or with `service` a service, over a UDP socket, for one thread."""
 
     def __init__(
-        self, node: int, params: Params, charge: int, host: str | None = None, port: int | None = None, *,
-        state: str | os.PathLike[str] | None = None, first: bool = False, again: bool = False, life: int = 1,
-        service: bool = False, learns: int = 0, pace: int = 0, flags: int = 0,
+        self,
+        node: int,
+        params: Params,
+        charge: int,
+        host: str | None = None,
+        port: int | None = None,
+        *,
+        state: str | os.PathLike[str] | None = None,
+        first: bool = False,
+        again: bool = False,
+        life: int = 1,
+        service: bool = False,
+        learns: int = 0,
+        pace: int = 0,
+        flags: int = 0,
     ) -> None:
-        """Binds the socket: without `host` at every address of IPv6 and IPv4, without `port` at a free port. Exactly one of
-        `state`, `first` and `again` says how the node starts. `learns`: how many peers may be learnt at one time.
+        """Binds the socket: without `host` at every address of IPv6 and IPv4, without `port` at a free port. Exactly
+        one of `state`, `first` and `again` says how the node starts. `learns`: how many peers may be learnt at one
+        time.
 
         UdpError: the system refuses it, or the state folder is in use; BadParameter; NoMemory."""
         if (state is not None) + first + again != 1:
             raise BadParameter("exactly one of state, first and again says how the node starts")
         options = _Options(
-            size=ctypes.sizeof(_Options), node=deltat._in_range(node, 32, "the node"), host=host and host.encode(),
-            port=None if port is None else str(port).encode(), params=deltat._Params(*astuple(params)),
-            charge=deltat._in_range(charge, 32, "the charge"), pace=pace, role=_ROLES[service],
-            start_as=1 if first else 2 if again else 0, life=deltat._in_range(life, 32, "the life"),
-            state=None if state is None else os.fsencode(state), max_peers=learns, flags=flags,
+            size=ctypes.sizeof(_Options),
+            node=deltat._in_range(node, 32, "the node"),
+            host=host and host.encode(),
+            port=None if port is None else str(port).encode(),
+            params=deltat._Params(*astuple(params)),
+            charge=deltat._in_range(charge, 32, "the charge"),
+            pace=pace,
+            role=_ROLES[service],
+            start_as=1 if first else 2 if again else 0,
+            life=deltat._in_range(life, 32, "the life"),
+            state=None if state is None else os.fsencode(state),
+            max_peers=learns,
+            flags=flags,
         )
         self.node, self.params, error = node, params, _Error()
         self._handle: int | None = _waits.dt_udp_open(options, error)
@@ -192,8 +240,8 @@ class Udp:
         self.close()
 
     def close(self) -> None:
-        """Closes the socket and the node. Nothing is sent: `drain` first, if what was sent should still arrive. Called again it
-        does nothing."""
+        """Closes the socket and the node. Nothing is sent: `drain` first, if what was sent should still arrive. Called
+        again it does nothing."""
         handle, self._handle, self._event = self._handle, None, None
         if handle:
             _waits.dt_udp_close(handle)
@@ -206,14 +254,18 @@ class Udp:
     def peer(self, node: int, host: str, port: int | str) -> None:
         """Sets the address of a node. BadParameter: there is no such address; NoMemory or Spent."""
         error = _Error()
-        if _waits.dt_udp_peer(self._open(), deltat._in_range(node, 32, "a node"), host.encode(), str(port).encode(), error):
+        number = deltat._in_range(node, 32, "a node")
+        if _waits.dt_udp_peer(self._open(), number, host.encode(), str(port).encode(), error):
             self._refuse(error)
 
     def open_port(self, port: int, kind: Kind | None = None) -> None:
         """Opens a port: of a service as a caller's or a service's. BadParameter: it is open, or has no such kind."""
-        status = _library.dt_udp_open_port(self._open(), deltat._in_range(port, 16, "a port"), _KINDS[kind] if kind else 0)
-        if status in (Status.HELD, Status.REFUSED):
-            raise BadParameter(f"port {port} is open already" if status == Status.HELD else f"port {port} can't be {kind}")
+        number = deltat._in_range(port, 16, "a port")
+        status = _library.dt_udp_open_port(self._open(), number, _KINDS[kind] if kind else 0)
+        if status == Status.HELD:
+            raise BadParameter(f"port {port} is open already")
+        if status == Status.REFUSED:
+            raise BadParameter(f"port {port} can't be {kind}")
         self._raise(status)
 
     @staticmethod
@@ -251,7 +303,8 @@ class Udp:
             yield from self.poll(None)
 
     def send(self, flow: Flow, octets: bytes) -> None:
-        """Sends a whole message, at once. Quiet, Full, BadParameter or Spent: none of it was taken; NoMemory: it may have been."""
+        """Sends a whole message, at once. Quiet, Full, BadParameter or Spent: none of it was taken; NoMemory: it may
+        have been."""
         it = _library.dt_udp_send(self._open(), deltat._flow(flow), octets, len(octets))
         _library.dt_udp_flush(self._handle)
         if it.status == Status.QUIET:
@@ -267,7 +320,7 @@ class Udp:
         _library.dt_udp_flush(self._open())
 
     def drain(self, seconds: float | None = None) -> bool:
-        """Waits until all that was sent is acknowledged or uncertain; whether that was within so many seconds."""
+        """Waits until all that was sent is acknowledged or uncertain: whether that was within so many seconds."""
         status = _waits.dt_udp_drain(self._open(), _milliseconds(seconds))
         self._raise(status)
         return status == Status.DONE
@@ -303,10 +356,10 @@ def _made(udp: Udp, flow: _FlowStruct, payload: bytes, patience_ms: int) -> int:
     it = _library.dt_udp_call(udp._open(), flow, payload, len(payload), patience_ms)
     if it.status == Status.DONE:
         return it.number
-    if it.status in (Status.QUIET, Status.FULL, _MANY, _NUMBERS):
-        raise Declined({Status.QUIET: "quiet", Status.FULL: "full", _MANY: "many"}.get(it.status, "numbers"), it.until, it.free)
+    if it.status in _DECLINED:
+        raise Declined(_DECLINED[it.status], it.until, it.free)
     if it.status == Status.REFUSED:
-        raise BadParameter(f"a call of {len(payload)} octets can't be made on this flow (reason {it.unfit} of enum dt_unfit)")
+        raise BadParameter(f"a call of {len(payload)} octets isn't made: {UNFIT.get(it.unfit, it.unfit)}")
     udp._raise(it.status)
     raise DeltatError(f"status {it.status}")
 
@@ -359,9 +412,10 @@ class Calls:
         self._functions: dict[int, Callable[[Request], bytes | None]] = {}
 
     def call(self, flow: Flow, payload: bytes, patience: float = 5.0) -> bytes:
-        """The answer to a call, within `patience` seconds. Unsure; Declined, BadParameter or Spent if it wasn't made; NoMemory:
-        take it as unsure."""
-        number, ends, step = _made(self.udp, self._flows(flow), payload, _patience_ms(patience)), self._ends, self._step
+        """The answer to a call, within `patience` seconds. Unsure; Declined, BadParameter or Spent if it wasn't made;
+        NoMemory: take it as unsure."""
+        number = _made(self.udp, self._flows(flow), payload, _patience_ms(patience))
+        ends, step = self._ends, self._step
         while number not in ends:
             step(-1)
         return _answer(ends.pop(number))
@@ -400,8 +454,8 @@ class Calls:
             self._step(50)
 
     def on(self, port: int) -> Callable[[Callable[[Request], bytes | None]], Callable[[Request], bytes | None]]:
-        """Decorates the function that serves a port: what it returns is the reply. If it returns None or raises, the request is
-        forgotten: its caller is unsure when its patience is over."""
+        """Decorates the function that serves a port: what it returns is the reply. If it returns None or raises, the
+        request is forgotten: its caller is unsure when its patience is over."""
 
         def serves(function: Callable[[Request], bytes | None]) -> Callable[[Request], bytes | None]:
             self._functions[port] = function
@@ -410,8 +464,8 @@ class Calls:
         return serves
 
     def run(self, seconds: float | None = None) -> None:
-        """Serves, for so long at most after the last request (None: without end). What a function raises is raised here, when
-        its request is forgotten."""
+        """Serves, for so long at most after the last request (None: without end). What a function raises is raised
+        here, when its request is forgotten."""
         for request in self.requests(seconds):
             function, reply = self._functions.get(request.token.flow.target_port), None
             try:
@@ -434,6 +488,9 @@ def _answer(end: bytes | Cause) -> bytes:
     return end
 
 
+_Serves = Callable[[Request], Awaitable[bytes | None]]
+
+
 class AsyncCalls:
     """The same in the running loop of asyncio: many calls may wait at once, and many requests be served. Use it as
     `async with`, or call `close` at the end: the driver itself stays open."""
@@ -446,7 +503,7 @@ class AsyncCalls:
         self._ends: dict[int, asyncio.Future[bytes]] = {}
         self._requests: deque[Request] = deque()
         self._changed = asyncio.Event()
-        self._functions: dict[int, Callable[[Request], Awaitable[bytes | None]]] = {}
+        self._functions: dict[int, _Serves] = {}
         self._tasks: set[asyncio.Task[None]] = set()
         self._failure: DeltatError | None = None
         self._flushes = False
@@ -510,8 +567,8 @@ class AsyncCalls:
             self._loop.call_soon(self._turn)
 
     async def call(self, flow: Flow, payload: bytes, patience: float = 5.0) -> bytes:
-        """The answer to a call, within `patience` seconds. Unsure; Declined, BadParameter or Spent if it wasn't made. If the wait
-        is cancelled the call goes on, and its end is dropped."""
+        """The answer to a call, within `patience` seconds. Unsure; Declined, BadParameter or Spent if it wasn't made.
+        If the wait is cancelled the call continues, and its end is dropped."""
         if self._failure:
             raise self._failure
         number = _made(self.udp, self._flows(flow), payload, _patience_ms(patience))
@@ -541,11 +598,11 @@ class AsyncCalls:
             self._changed.clear()
             await self._changed.wait()
 
-    def on(self, port: int) -> Callable[[Callable[[Request], Awaitable[bytes | None]]], Callable[[Request], Awaitable[bytes | None]]]:
-        """Decorates the coroutine that serves a port, as `Calls.on`. Several may be under way at once. If one raises, its request
-        is forgotten, and `run` goes on: asyncio logs what it raised."""
+    def on(self, port: int) -> Callable[[_Serves], _Serves]:
+        """Decorates the coroutine that serves a port, as `Calls.on`. Several may be under way at once. If one raises,
+        its request is forgotten, and `run` continues: asyncio logs what it raised."""
 
-        def serves(function: Callable[[Request], Awaitable[bytes | None]]) -> Callable[[Request], Awaitable[bytes | None]]:
+        def serves(function: _Serves) -> _Serves:
             self._functions[port] = function
             return function
 

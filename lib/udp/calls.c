@@ -15,7 +15,9 @@ uint8_t dt_udp_peer(dt_udp *u, uint32_t node, const char *host, const char *port
     status = dtu_core_add_route(&u->core, node);
     struct peer *peer = status == DT_DONE ? dtu_peers_find(&u->peers, node) : NULL;
     if (status == DT_DONE && peer == NULL) peer = dtu_peers_add(&u->peers, node);
-    if (peer == NULL) return dtu_refuse(error, status == DT_DONE ? DT_NO_MEMORY : status, 0, "node %u isn't added: out of memory", node);
+    if (peer == NULL)
+        return dtu_refuse(error, status == DT_DONE ? DT_NO_MEMORY : status, 0, "node %u isn't added: out of memory",
+                          node);
     dtu_strangers_configured(u, peer);
     memcpy(peer->others, found.others, sizeof peer->others);
     peer->choices = found.choices;

@@ -1,17 +1,17 @@
 /* Readings of the clocks, and how long a datagram waited in the socket.
  *
- * Two upper bounds of the wait are known, and the smaller one counts. The time since the socket was last found empty: the
- * clock is read BEFORE the look that finds it empty, so a process that is stopped after the look doesn't make the bound
- * too small. And the kernel's stamp, which is of the wall clock: it counts only while the wall clock wasn't set since the
- * socket was last found empty, and only after stamps were surely on (the kernel turns them on a moment after they are
- * asked for, and until then a stamp is the time at which the datagram is read). */
+ * Two upper bounds of the wait are known, and the smaller one counts. The time since the socket was last found empty:
+ * the clock is read BEFORE the look that finds it empty, so a process that is stopped after the look doesn't make the
+ * bound too small. And the kernel's stamp, which is of the wall clock: it counts only while the wall clock wasn't set
+ * since the socket was last found empty, and only after stamps were surely on (the kernel turns them on a moment
+ * after they are asked for, and until then a stamp is the time at which the datagram is read). */
 #include "udp.h"
 #include <time.h>
 
 enum {
     MS = 1000000,
-    STEP_NS = 200000,   /* the clocks are read one after the other: a difference up to this is no step */
-    SURE_NS = 100 * MS  /* stamps are on so long after the opening at the latest */
+    STEP_NS = 200000,  /* the clocks are read one after the other: a difference up to this is no step */
+    SURE_NS = 100 * MS /* stamps are on so long after the opening at the latest */
 };
 
 static int64_t nanoseconds(clockid_t clock) {

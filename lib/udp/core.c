@@ -24,8 +24,13 @@ uint8_t dtu_core_open(struct core *core, const struct dt_udp_options *options, u
     bool again = options->start_as == DT_UDP_START_AGAIN;
     core->link = options->link;
     if (options->role == DT_UDP_ROLE_SERVICE) {
-        struct dt_service_start start = {now, options->node, options->life, options->max_calls, options->max_requests,
-                                         options->max_requests_per_flow, again};
+        struct dt_service_start start = {now,
+                                         options->node,
+                                         options->life,
+                                         options->max_calls,
+                                         options->max_requests,
+                                         options->max_requests_per_flow,
+                                         again};
         core->service = aligned(dt_service_size(), dt_service_align());
         if (core->service == NULL) return DT_NO_MEMORY;
         dt_service_init(core->service);
@@ -109,20 +114,22 @@ struct dt_event dtu_core_next_event(struct core *core, uint8_t *room, size_t siz
     return dt_next_event(core->service, room, size);
 }
 
-struct dt_sent dtu_core_send(struct core *core, uint64_t now, const struct dt_flow *flow, const uint8_t *octets, size_t len) {
+struct dt_sent dtu_core_send(struct core *core, uint64_t now, const struct dt_flow *flow, const uint8_t *octets,
+                             size_t len) {
     struct dt_sent it = dt_send(core->node, now, flow, octets, len, true, true);
     kept(core, it.status);
     return it;
 }
 
 struct dt_made dtu_core_call(struct core *core, uint64_t now, const struct dt_flow *flow, const struct iovec *octets,
-                         uint32_t timeout_ms) {
+                             uint32_t timeout_ms) {
     struct dt_made it = dt_call(core->service, now, flow, octets->iov_base, octets->iov_len, timeout_ms);
     kept(core, it.status);
     return it;
 }
 
-struct dt_replied dtu_core_reply(struct core *core, uint64_t now, const struct dt_token *token, const struct iovec *octets) {
+struct dt_replied dtu_core_reply(struct core *core, uint64_t now, const struct dt_token *token,
+                                 const struct iovec *octets) {
     struct dt_replied it = dt_reply(core->service, now, token, octets->iov_base, octets->iov_len);
     kept(core, it.status);
     return it;

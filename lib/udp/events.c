@@ -51,6 +51,7 @@ static void collect_reports(dt_udp *u) {
     struct dt_report it;
     while (dtu_core_next_report(&u->core, &it)) {
         if (u->options.report_kinds >> it.kind & 1) keep_report(u, &it);
+        dtu_objects_report(u, &it);
         bool readable = it.kind == DT_ACCEPTED || (it.kind == DT_RELEASED && !it.sending);
         if (readable && dtu_core_mark_readable(&u->core, &it.flow) != DT_DONE) dtu_fail(u, DT_NO_MEMORY, 0);
     }
@@ -95,7 +96,7 @@ static void collect_messages(dt_udp *u, uint64_t at) {
         }
         struct dt_message it = dtu_core_next_message(&u->core, at, u->spare->octets, u->options.max_message);
         dtu_judge(u);
-        if (it.status == DT_DONE) keep_message(u, &it);
+        if (it.status == DT_DONE && !dtu_objects_message(u, &it.flow, u->spare->octets, it.len)) keep_message(u, &it);
         if (it.status == DT_LOST) u->counts.messages_lost++;
         u->counts.messages_too_long = it.too_long;
         if (it.status != DT_DONE && it.status != DT_LOST && it.status != DT_MORE) return;
@@ -169,7 +170,8 @@ static bool next_too_big(dt_udp *u) {
 
 /* Makes the next thing that happened the event. False: nothing did. */
 static bool next_event(dt_udp *u) {
-    return next_too_big(u) || next_report(u) || (u->core.service ? next_of_service(u) : next_message(u));
+    return next_too_big(u) || next_report(u) || dtu_objects_event(u) ||
+           (u->core.service ? next_of_service(u) : next_message(u));
 }
 
 static bool next_failure(dt_udp *u) {
@@ -189,6 +191,7 @@ static void keep_up(dt_udp *u, uint64_t now) {
 const struct dt_udp_event *dt_udp_next(dt_udp *u, int wait_ms) {
     free(u->lent);
     u->lent = NULL;
+    dtu_objects_release(u);
     memset(&u->event, 0, sizeof u->event);
     if (!dtu_is_usable(u)) { /* (what waits in a forked child is the parent's) */
         if (u->is_copy || !next_event(u)) next_failure(u);

@@ -44,9 +44,13 @@ static bool set_timer(dt_udp *u, uint64_t at) {
 /* When the driver wants to be called, at the latest. */
 static uint64_t wake_of(dt_udp *u, uint64_t now) {
     uint64_t wake = dtu_core_wake(&u->core), greets = dtu_strangers_wake(u);
+    uint64_t objects = dtu_objects_wake(u);
     if (greets < wake) wake = greets;
+    if (objects < wake) wake = objects;
     if (!u->stamps && wake > now + BLIND_WAKE_MS) wake = now + BLIND_WAKE_MS;
-    return wake > now ? wake : now + 1; /* (a node that was called late may name a time that is past, at which nothing is due) */
+    return wake > now
+               ? wake
+               : now + 1; /* (a node that was called late may name a time that is past, at which nothing is due) */
 }
 
 /* Sets the timer, if there is a descriptor. One that is set to an earlier time stays: it wakes for nothing once. */
@@ -64,7 +68,8 @@ void dtu_loop_arm(dt_udp *u) {
 
 /* Does what is due. Each input does that too, so nothing is due at the reading of the last one. */
 static void tick(dt_udp *u, uint64_t at) {
-    if (at <= u->input_at || at <= u->ticked_at || u->failed || dtu_core_wake(&u->core) > at || !dtu_begin(u, at)) return;
+    if (at <= u->input_at || at <= u->ticked_at || u->failed || dtu_core_wake(&u->core) > at || !dtu_begin(u, at))
+        return;
     u->ticked_at = at;
     (void)dtu_core_tick(&u->core, at);
     dtu_judge(u);

@@ -39,8 +39,8 @@ void dtu_judge(dt_udp *u) {
     if (u->core.stopped) dtu_fail(u, u->core.stopped, 0);
 }
 
-/* Begins an input of the node with this reading: what it makes is late LATE_MS after the oldest reading, and the state folder
- * knows of it before it is done. False: the input must not be given to the node. */
+/* Begins an input of the node with this reading: what it makes is late LATE_MS after the oldest reading, and the
+ * state folder knows of it before it is done. False: the input must not be given to the node. */
 bool dtu_begin(dt_udp *u, uint64_t at) {
     if (u->failed) return false;
     if (!dtu_state_note(u, at)) {
@@ -70,15 +70,18 @@ static uint32_t or_usual(uint32_t value, uint32_t usual) { return value ? value 
 static uint8_t take_options(dt_udp *u, const struct dt_udp_options *given, struct dt_udp_error *error) {
     struct dt_udp_options *o = &u->options;
     if (given->size < sizeof(uint32_t) || given->size > sizeof *o)
-        return dtu_refuse(error, DT_REFUSED, 0, "options.size is %u; set it to sizeof(struct dt_udp_options)", given->size);
+        return dtu_refuse(error, DT_REFUSED, 0, "options.size is %u; set it to sizeof(struct dt_udp_options)",
+                          given->size);
     memcpy(o, given, given->size);
     if (o->role == 0) o->role = DT_UDP_ROLE_NODE;
     if (o->role != DT_UDP_ROLE_NODE && o->role != DT_UDP_ROLE_SERVICE)
         return dtu_refuse(error, DT_REFUSED, 0, "options.role is %u; use enum dt_udp_role", o->role);
     if (o->state && o->start_as == DT_UDP_START_FIRST)
-        return dtu_refuse(error, DT_REFUSED, 0, "options.start_as is DT_UDP_START_FIRST, and the state folder knows better; leave it 0");
+        return dtu_refuse(error, DT_REFUSED, 0,
+                          "options.start_as is DT_UDP_START_FIRST, and the state folder knows better; leave it 0");
     if (o->start_as > DT_UDP_START_AGAIN || (o->start_as == DT_UDP_START_BY_STATE && o->state == NULL))
-        return dtu_refuse(error, DT_REFUSED, 0, "options.start_as is %u; use DT_UDP_START_AGAIN unless the number is new", o->start_as);
+        return dtu_refuse(error, DT_REFUSED, 0,
+                          "options.start_as is %u; use DT_UDP_START_AGAIN unless the number is new", o->start_as);
     if (o->flags >> 5) return dtu_refuse(error, DT_REFUSED, 0, "options.flags is %u; use enum dt_udp_flag", o->flags);
     o->link = o->link ? o->link : 1;
     o->max_calls = or_usual(o->max_calls, 1000);
@@ -100,21 +103,27 @@ static uint8_t open_core(dt_udp *u, struct dt_udp_error *error) {
     status = dtu_core_open(&u->core, &u->options, now, &parameter);
     if (u->options.start_as == DT_UDP_START_AGAIN) u->quiet_until = now + dtu_core_quiet_ms(&u->options.params);
     if (error) error->parameter = parameter;
-    if (status == DT_REFUSED) return dtu_refuse(error, status, 0, "number %u of params is out of its range (deltat.h)", parameter);
-    if (status == DT_DONE) status = dtu_core_set_guard(&u->core, &u->ports, u->options.flags & DT_UDP_ALL_PORTS, u->options.max_flows);
+    if (status == DT_REFUSED)
+        return dtu_refuse(error, status, 0, "number %u of params is out of its range (deltat.h)", parameter);
+    if (status == DT_DONE)
+        status = dtu_core_set_guard(&u->core, &u->ports, u->options.flags & DT_UDP_ALL_PORTS, u->options.max_flows);
     return status == DT_DONE ? status : dtu_refuse(error, status, 0, "out of memory");
 }
 
 static uint8_t open_all(dt_udp *u, const struct dt_udp_options *options, struct dt_udp_error *error) {
-    if (!dtu_core_is_known()) return dtu_refuse(error, DT_REFUSED, 0, "libdeltat has another interface than deltat.h; build both anew");
+    if (!dtu_core_is_known())
+        return dtu_refuse(error, DT_REFUSED, 0, "libdeltat has another interface than deltat.h; build both anew");
     if (!dtu_clock_works()) return dtu_refuse(error, DT_CLOSED, errno, "the machine has no CLOCK_BOOTTIME");
     uint8_t status = take_options(u, options, error);
     if (status != DT_DONE) return status;
     mark_owner(u);
-    if (dtu_peers_open(&u->peers) != DT_DONE || dtu_events_open(u) != DT_DONE) return dtu_refuse(error, DT_NO_MEMORY, 0, "out of memory");
+    if (dtu_peers_open(&u->peers) != DT_DONE || dtu_events_open(u) != DT_DONE)
+        return dtu_refuse(error, DT_NO_MEMORY, 0, "out of memory");
     if ((status = dtu_socket_open(u, error)) != DT_DONE) return status;
-    if (dtu_reading_open(u) != DT_DONE || dtu_writing_open(u) != DT_DONE) return dtu_refuse(error, DT_NO_MEMORY, 0, "out of memory");
-    if ((status = dtu_strangers_open(u)) != DT_DONE) return dtu_refuse(error, status, errno, "no memory, or no random octets");
+    if (dtu_reading_open(u) != DT_DONE || dtu_writing_open(u) != DT_DONE)
+        return dtu_refuse(error, DT_NO_MEMORY, 0, "out of memory");
+    if ((status = dtu_strangers_open(u)) != DT_DONE)
+        return dtu_refuse(error, status, errno, "no memory, or no random octets");
     u->opened = dtu_clock_reading();
     dtu_clock_was_empty(u, &u->opened);
     u->ahead_ns = u->opened.wall - u->opened.boot;
@@ -140,6 +149,7 @@ void dt_udp_close(dt_udp *u) {
     dtu_core_close(&u->core);
     dtu_state_close(u);
     dtu_events_close(u);
+    dtu_objects_close(u);
     dtu_reading_close(u);
     dtu_writing_close(u);
     dtu_strangers_close(u);

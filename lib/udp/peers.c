@@ -9,7 +9,8 @@ uint8_t dtu_peers_open(struct peers *peers) {
     peers->size = FEWEST_BUCKETS;
     peers->buckets = calloc(peers->size, sizeof(struct peer *));
     /* (without a random key the table works; somebody who chooses numbers may then make it slow) */
-    if (getrandom(&peers->key, sizeof peers->key, GRND_NONBLOCK) != (ssize_t)sizeof peers->key) peers->key = 0x9e3779b97f4a7c15u;
+    if (getrandom(&peers->key, sizeof peers->key, GRND_NONBLOCK) != (ssize_t)sizeof peers->key)
+        peers->key = 0x9e3779b97f4a7c15u;
     peers->key |= 1;
     return peers->buckets ? DT_DONE : DT_NO_MEMORY;
 }

@@ -12,7 +12,7 @@ enum {
     MADE_BY = 8,           /* where a Deltagram's header names the node that made it */
     READ_CLOCK_EVERY = 16, /* datagrams */
     FLUSH_MS = 5,          /* frames that wait for longer are sent before more is passed in */
-    BLIND_MS = 4           /* without stamps a look waits no longer, since a datagram may have waited as long as the look */
+    BLIND_MS = 4 /* without stamps a look waits no longer, since a datagram may have waited as long as the look */
 };
 
 /* What control messages say of one read. */
@@ -35,16 +35,14 @@ void dtu_reading_close(dt_udp *u) { free(u->in.rooms); }
 static void set_up(dt_udp *u) {
     for (unsigned i = 0; i < u->in.used; i++) {
         u->in.parts[i] = (struct iovec){u->in.rooms + i * u->in.room, u->in.room};
-        u->in.heads[i].msg_hdr = (struct msghdr){
-            .msg_name = &u->in.from[i].name, .msg_namelen = sizeof u->in.from[i].name,
-            .msg_iov = &u->in.parts[i], .msg_iovlen = 1,
-            .msg_control = u->in.controls[i], .msg_controllen = CONTROL_ROOM};
+        u->in.heads[i].msg_hdr = (struct msghdr){.msg_name = &u->in.from[i].name,
+                                                 .msg_namelen = sizeof u->in.from[i].name,
+                                                 .msg_iov = &u->in.parts[i],
+                                                 .msg_iovlen = 1,
+                                                 .msg_control = u->in.controls[i],
+                                                 .msg_controllen = CONTROL_ROOM};
     }
     u->in.used = 0;
-}
-
-static uint32_t number_at(const uint8_t *at) {
-    return (uint32_t)at[0] << 24 | (uint32_t)at[1] << 16 | (uint32_t)at[2] << 8 | at[3];
 }
 
 static void read_pktinfo(const struct cmsghdr *it, struct label *label) {
@@ -88,8 +86,9 @@ bool dtu_is_from(struct peer *peer, const struct address *from) {
     return false;
 }
 
-/* Passes one datagram in; whether the node took it. What of it becomes readable is read at once, so that acknowledgements
- * say how much room there is. (A trailer behind the frame would be taken off here, and its age told in `waited_ms`.) */
+/* Passes one datagram in; whether the node took it. What of it becomes readable is read at once, so that
+ * acknowledgements say how much room there is. (A trailer behind the frame would be taken off here, and its age told
+ * in `waited_ms`.) */
 bool dtu_pass_in(dt_udp *u, const struct arrival *it) {
     if (!dtu_begin(u, it->at)) return false;
     bool taken = dtu_core_receive(&u->core, it->at, it->octets, it->len, it->waited_ms) == DT_DONE;
@@ -107,7 +106,7 @@ static void receive(dt_udp *u, struct arrival *it) {
         u->counts.unknown++;
         return;
     }
-    it->maker = number_at(it->octets + MADE_BY);
+    it->maker = (uint32_t)dtu_get_number(it->octets + MADE_BY, 4);
     struct peer *peer = dtu_peers_find(&u->peers, it->maker);
     if (peer == NULL || !dtu_is_from(peer, it->from)) {
         dtu_stranger(u, it);

@@ -39,18 +39,20 @@ static void keep(struct address *to, const struct addrinfo *from) {
 }
 
 /* Looks a name up. Null: `error` says why. */
-static struct addrinfo *look_up(const char *host, const char *port, const struct addrinfo *hints, struct dt_udp_error *error) {
+static struct addrinfo *look_up(const char *host, const char *port, const struct addrinfo *hints,
+                                struct dt_udp_error *error) {
     struct addrinfo *found = NULL;
     int failed = getaddrinfo(host, port, hints, &found);
     if (failed == 0 && found) return found;
     uint8_t status = failed == EAI_MEMORY ? DT_NO_MEMORY : DT_REFUSED;
-    dtu_refuse(error, status, failed == EAI_SYSTEM ? errno : 0, "%s port %s: no such address (%s)", host ? host : "*", port ? port : "0",
-           failed ? gai_strerror(failed) : "none was found");
+    dtu_refuse(error, status, failed == EAI_SYSTEM ? errno : 0, "%s port %s: no such address (%s)", host ? host : "*",
+               port ? port : "0", failed ? gai_strerror(failed) : "none was found");
     return NULL;
 }
 
 /* The addresses of a peer's name that the socket can send to. DT_DONE, DT_REFUSED or DT_NO_MEMORY. */
-uint8_t dtu_socket_addresses(const dt_udp *u, const char *host, const char *port, struct peer *peer, struct dt_udp_error *error) {
+uint8_t dtu_socket_addresses(const dt_udp *u, const char *host, const char *port, struct peer *peer,
+                             struct dt_udp_error *error) {
     struct addrinfo hints = {.ai_family = u->family, .ai_socktype = SOCK_DGRAM};
     if (u->family == AF_INET6) hints.ai_flags = AI_V4MAPPED | AI_ALL;
     struct dt_udp_error own = {.status = DT_REFUSED};
@@ -66,7 +68,9 @@ uint8_t dtu_socket_addresses(const dt_udp *u, const char *host, const char *port
     return DT_DONE;
 }
 
-static bool set(int socket, int level, int name, int value) { return setsockopt(socket, level, name, &value, sizeof value) == 0; }
+static bool set(int socket, int level, int name, int value) {
+    return setsockopt(socket, level, name, &value, sizeof value) == 0;
+}
 
 /* Sets what the driver can do without: each that the system refuses is done another way, or is a limit of the system. */
 static void set_wishes(dt_udp *u) {
@@ -89,7 +93,8 @@ static uint8_t forbid_fragments(dt_udp *u, struct dt_udp_error *error) {
 }
 
 static bool is_every(const struct sockaddr *at) {
-    if (at->sa_family == AF_INET) return ((const struct sockaddr_in *)(const void *)at)->sin_addr.s_addr == htonl(INADDR_ANY);
+    if (at->sa_family == AF_INET)
+        return ((const struct sockaddr_in *)(const void *)at)->sin_addr.s_addr == htonl(INADDR_ANY);
     return IN6_IS_ADDR_UNSPECIFIED(&((const struct sockaddr_in6 *)(const void *)at)->sin6_addr);
 }
 
@@ -99,7 +104,8 @@ static uint8_t bound(dt_udp *u, const struct addrinfo *at, struct dt_udp_error *
     u->family = at->ai_family;
     u->every_address = is_every(at->ai_addr);
     u->socket = socket(at->ai_family, SOCK_DGRAM | SOCK_CLOEXEC, 0);
-    if (u->socket < 0) return dtu_refuse(error, errno == ENOMEM || errno == ENOBUFS ? DT_NO_MEMORY : DT_CLOSED, errno, "no socket");
+    if (u->socket < 0)
+        return dtu_refuse(error, errno == ENOMEM || errno == ENOBUFS ? DT_NO_MEMORY : DT_CLOSED, errno, "no socket");
     if (u->family == AF_INET6 && !set(u->socket, IPPROTO_IPV6, IPV6_V6ONLY, !both) && both)
         return dtu_refuse(error, DT_CLOSED, errno, "the socket can't have IPv4 and IPv6");
     uint8_t status = forbid_fragments(u, error);
@@ -108,14 +114,17 @@ static uint8_t bound(dt_udp *u, const struct addrinfo *at, struct dt_udp_error *
     if (bind(u->socket, at->ai_addr, at->ai_addrlen) == 0) return DT_DONE;
     const char *host = u->options.host ? u->options.host : "*", *port = u->options.port ? u->options.port : "0";
     if (errno == EADDRINUSE)
-        return dtu_refuse(error, DT_CLOSED, errno, "%s port %s is in use; stop the other program or choose another port", host, port);
+        return dtu_refuse(error, DT_CLOSED, errno,
+                          "%s port %s is in use; stop the other program or choose another port", host, port);
     return dtu_refuse(error, DT_CLOSED, errno, "%s port %s can't be bound", host, port);
 }
 
-/* Opens and binds the socket. Without `host` it has every address of both families, or of IPv4 where there is no IPv6. */
+/* Opens and binds the socket. Without `host` it has every address of both families, or of IPv4 where there is no
+ * IPv6. */
 uint8_t dtu_socket_open(dt_udp *u, struct dt_udp_error *error) {
     const char *host = u->options.host, *port = u->options.port ? u->options.port : "0";
-    struct addrinfo hints = {.ai_family = host ? AF_UNSPEC : AF_INET6, .ai_socktype = SOCK_DGRAM, .ai_flags = AI_PASSIVE};
+    struct addrinfo hints = {
+        .ai_family = host ? AF_UNSPEC : AF_INET6, .ai_socktype = SOCK_DGRAM, .ai_flags = AI_PASSIVE};
     struct dt_udp_error own = {.status = DT_REFUSED};
     uint8_t status = DT_REFUSED;
     for (int tries = host ? 1 : 2; tries > 0 && status != DT_DONE; tries--, hints.ai_family = AF_INET) {

@@ -1,8 +1,8 @@
-/* The state folder of a node: what has to outlive a program, so that the next start of its node is safe. docs/formats.md
- * has the form of its files, and bindings/python/deltat_state.py keeps the same ones.
+/* The state folder of a node: what has to outlive a program, so that the next start of its node is safe.
+ * docs/formats.md has the form of its files, and bindings/python/deltat_state.py keeps the same ones.
  *
- * Nothing leaves the node, and nothing is passed to it, later than the moment in the file `last`, which is written ahead of
- * time: so a program that is killed at any instruction leaves a moment that is late enough. */
+ * Nothing leaves the node, and nothing is passed to it, later than the moment in the file `last`, which is written
+ * ahead of time: so a program that is killed at any instruction leaves a moment that is late enough. */
 #include "udp.h"
 #include <dirent.h>
 #include <errno.h>
@@ -19,7 +19,8 @@
 
 enum { TEXT = 512, LEAST_AHEAD_MS = 50, BOOT = 36, FIRST_FRESH = 65536 };
 
-static const uint32_t DRAWN_FROM = UINT32_C(1) << 31; /* lives are counted from 1, and drawn from here on if the count is lost */
+static const uint32_t DRAWN_FROM = UINT32_C(1)
+                                   << 31; /* lives are counted from 1, and drawn from here on if the count is lost */
 static const char NO_BOOT[] = "00000000-0000-0000-0000-000000000000";
 
 /* --- octets of files */
@@ -35,10 +36,13 @@ static uint32_t crc32_of(const char *octets, size_t len) {
 
 /* Adds the last line, the checksum of those before it. */
 static size_t checked(char text[TEXT], int len) {
-    return (size_t)(len + snprintf(text + len, TEXT - (size_t)len, "check %08" PRIx32 "\n", crc32_of(text, (size_t)len)));
+    return (size_t)(len +
+                    snprintf(text + len, TEXT - (size_t)len, "check %08" PRIx32 "\n", crc32_of(text, (size_t)len)));
 }
 
-struct kept { uint32_t node, life, numbers[11]; };
+struct kept {
+    uint32_t node, life, numbers[11];
+};
 
 static size_t kept_text(const struct kept *it, char text[TEXT]) {
     int len = snprintf(text, TEXT, "deltat state 1\nnode %" PRIu32 "\nparams", it->node);
@@ -50,21 +54,29 @@ static size_t kept_text(const struct kept *it, char text[TEXT]) {
 static bool read_kept(const char *octets, size_t len, struct kept *it) {
     uint32_t *n = it->numbers;
     char text[TEXT];
-    int found = sscanf(octets, "deltat state 1\nnode %" SCNu32 "\nparams %" SCNu32 " %" SCNu32 " %" SCNu32 " %" SCNu32 " %" SCNu32 " %" SCNu32
-                       " %" SCNu32 " %" SCNu32 " %" SCNu32 " %" SCNu32 " %" SCNu32 "\nlife %" SCNu32, &it->node, n, n + 1, n + 2, n + 3, n + 4,
-                       n + 5, n + 6, n + 7, n + 8, n + 9, n + 10, &it->life);
+    int found = sscanf(octets,
+                       "deltat state 1\nnode %" SCNu32 "\nparams %" SCNu32 " %" SCNu32 " %" SCNu32 " %" SCNu32
+                       " %" SCNu32 " %" SCNu32 " %" SCNu32 " %" SCNu32 " %" SCNu32 " %" SCNu32 " %" SCNu32
+                       "\nlife %" SCNu32,
+                       &it->node, n, n + 1, n + 2, n + 3, n + 4, n + 5, n + 6, n + 7, n + 8, n + 9, n + 10, &it->life);
     return found == 13 && kept_text(it, text) == len && memcmp(text, octets, len) == 0;
 }
 
-struct last { char boot[BOOT + 1]; int64_t clock; uint64_t until; };
+struct last {
+    char boot[BOOT + 1];
+    int64_t clock;
+    uint64_t until;
+};
 
 static size_t last_text(const struct last *it, char text[TEXT]) {
-    return checked(text, snprintf(text, TEXT, "deltat last 1\nboot %s\nclock %+020" PRId64 "\nuntil %020" PRIu64 "\n", it->boot, it->clock, it->until));
+    return checked(text, snprintf(text, TEXT, "deltat last 1\nboot %s\nclock %+020" PRId64 "\nuntil %020" PRIu64 "\n",
+                                  it->boot, it->clock, it->until));
 }
 
 static bool read_last(const char *octets, size_t len, struct last *it) {
     char text[TEXT];
-    int found = sscanf(octets, "deltat last 1\nboot %36[0-9a-f-]\nclock %" SCNd64 "\nuntil %" SCNu64, it->boot, &it->clock, &it->until);
+    int found = sscanf(octets, "deltat last 1\nboot %36[0-9a-f-]\nclock %" SCNd64 "\nuntil %" SCNu64, it->boot,
+                       &it->clock, &it->until);
     return found == 3 && last_text(it, text) == len && memcmp(text, octets, len) == 0;
 }
 
@@ -101,11 +113,13 @@ static void read_boot(char boot[BOOT + 1]) {
     boot[BOOT] = 0;
 }
 
-/* How far this process's CLOCK_BOOTTIME is ahead of the machine's, in ns: a time namespace moves it. False: not known. */
+/* How far this process's CLOCK_BOOTTIME is ahead of the machine's, in ns: a time namespace moves it. False: not
+ * known. */
 static bool read_clock(int64_t *ahead) {
     char own[64], children[64], text[TEXT];
     *ahead = 0;
-    ssize_t len = readlink("/proc/self/ns/time", own, sizeof own), other = readlink("/proc/self/ns/time_for_children", children, sizeof children);
+    ssize_t len = readlink("/proc/self/ns/time", own, sizeof own),
+            other = readlink("/proc/self/ns/time_for_children", children, sizeof children);
     if (len < 0 && errno == ENOENT) return true; /* (a kernel without time namespaces) */
     if (len <= 0 || len != other || memcmp(own, children, (size_t)len) != 0) return false;
     if (read_file(AT_FDCWD, "/proc/self/timens_offsets", text) < 0) return errno == ENOENT;
@@ -180,8 +194,11 @@ static uint8_t take_lock(struct state *s, const char *path, bool *known, struct 
         if (errno != EWOULDBLOCK) return dtu_refuse(error, DT_CLOSED, errno, "%s can't be locked", path);
         char text[64] = "";
         ssize_t len = pread(s->lock, text, sizeof text - 1, 0);
-        return dtu_refuse(error, DT_HELD, 0, "%s is in use by process %d; one node number is one node: stop that one, or give this one a number and "
-                          "a folder of its own", path, len > 4 ? atoi(text + 4) : 0);
+        return dtu_refuse(
+            error, DT_HELD, 0,
+            "%s is in use by process %d; one node number is one node: stop that one, or give this one a number and "
+            "a folder of its own",
+            path, len > 4 ? atoi(text + 4) : 0);
     }
     char text[32];
     int len = snprintf(text, sizeof text, "pid %d\n", (int)getpid());
@@ -194,36 +211,46 @@ static uint8_t take_lock(struct state *s, const char *path, bool *known, struct 
 
 static struct kept kept_of(const struct dt_udp_options *o) {
     const struct dt_params *p = &o->params;
-    return (struct kept){.node = o->node,
-                         .numbers = {p->mpl, p->r, p->a, p->rto, p->probe, p->seg, p->cap, p->rcap, p->window, p->run_limit, p->start}};
+    return (struct kept){
+        .node = o->node,
+        .numbers = {p->mpl, p->r, p->a, p->rto, p->probe, p->seg, p->cap, p->rcap, p->window, p->run_limit, p->start}};
 }
 
-static uint64_t quiet_of(const struct kept *it) { return 3 * (uint64_t)it->numbers[0] + it->numbers[1] + it->numbers[2]; }
+static uint64_t quiet_of(const struct kept *it) {
+    return 3 * (uint64_t)it->numbers[0] + it->numbers[1] + it->numbers[2];
+}
 
 static uint8_t refuse_node(const char *path, uint32_t kept, uint32_t node, struct dt_udp_error *error) {
-    return dtu_refuse(error, DT_REFUSED, 0, "%s is of node %u, and this is node %u; each node counts its own lives: give it a folder of its own",
-                      path, kept, node);
+    return dtu_refuse(
+        error, DT_REFUSED, 0,
+        "%s is of node %u, and this is node %u; each node counts its own lives: give it a folder of its own", path,
+        kept, node);
 }
 
 /* Reads the file `state`. `*found`: it is whole. One that isn't is put aside. */
-static uint8_t look_at_state(struct state *s, const struct dt_udp_options *o, struct kept *kept, struct dt_udp_error *error) {
+static uint8_t look_at_state(struct state *s, const struct dt_udp_options *o, struct kept *kept,
+                             struct dt_udp_error *error) {
     char text[TEXT];
     struct kept own = kept_of(o);
     ssize_t len = read_file(s->folder, "state", text);
     s->has_state = false;
-    if (len < 0) return errno == ENOENT ? DT_DONE : dtu_refuse(error, DT_CLOSED, errno, "%s/state can't be read", o->state);
+    if (len < 0)
+        return errno == ENOENT ? DT_DONE : dtu_refuse(error, DT_CLOSED, errno, "%s/state can't be read", o->state);
     if (!read_kept(text, (size_t)len, kept)) {
         const char *line = strstr(text, "\nnode ");
         uint32_t node;
-        if (line && sscanf(line, "\nnode %" SCNu32 "\n", &node) == 1 && node != o->node) return refuse_node(o->state, node, o->node, error);
+        if (line && sscanf(line, "\nnode %" SCNu32 "\n", &node) == 1 && node != o->node)
+            return refuse_node(o->state, node, o->node, error);
         if (renameat(s->folder, "state", s->folder, "state.damaged") == 0) return DT_DONE;
         return dtu_refuse(error, DT_CLOSED, errno, "%s/state is damaged, and can't be put aside", o->state);
     }
     if (kept->node != o->node) return refuse_node(o->state, kept->node, o->node, error);
     if (memcmp(kept->numbers, own.numbers, sizeof own.numbers) != 0 && !(o->flags & DT_UDP_PARAMS_CHANGED)) {
         uint64_t quiet = quiet_of(kept) > quiet_of(&own) ? quiet_of(kept) : quiet_of(&own);
-        return dtu_refuse(error, DT_REFUSED, 0, "%s has other parameters, and all nodes have the same: stop all nodes, wait %" PRIu64
-                          " ms, and set DT_UDP_PARAMS_CHANGED once", o->state, quiet);
+        return dtu_refuse(error, DT_REFUSED, 0,
+                          "%s has other parameters, and all nodes have the same: stop all nodes, wait %" PRIu64
+                          " ms, and set DT_UDP_PARAMS_CHANGED once",
+                          o->state, quiet);
     }
     s->has_state = true;
     return DT_DONE;
@@ -248,18 +275,24 @@ static void look_at_last(struct state *s, const struct dt_udp_options *o, const 
 }
 
 /* The next life: on the disk when this returns. */
-static uint8_t count_life(struct state *s, const struct dt_udp_options *o, const struct kept *kept, struct dt_udp_error *error) {
+static uint8_t count_life(struct state *s, const struct dt_udp_options *o, const struct kept *kept,
+                          struct dt_udp_error *error) {
     struct kept own = kept_of(o);
     uint32_t before = s->has_state ? kept->life : 0, drawn;
     if (s->again && (!s->has_state || o->start_as == DT_UDP_START_AGAIN)) {
-        if (getrandom(&drawn, sizeof drawn, 0) != sizeof drawn) return dtu_refuse(error, DT_CLOSED, errno, "no random octets");
+        if (getrandom(&drawn, sizeof drawn, 0) != sizeof drawn)
+            return dtu_refuse(error, DT_CLOSED, errno, "no random octets");
         before = DRAWN_FROM + drawn % (DRAWN_FROM / 2);
     }
-    if (before == UINT32_MAX) return dtu_refuse(error, DT_REFUSED, 0, "%s: no lives are left; give the node another number and folder", o->state);
+    if (before == UINT32_MAX)
+        return dtu_refuse(error, DT_REFUSED, 0, "%s: no lives are left; give the node another number and folder",
+                          o->state);
     own.life = s->life = before + 1;
     char text[TEXT];
     size_t len = kept_text(&own, text);
-    return replace_state(s->folder, text, len) ? DT_DONE : dtu_refuse(error, DT_CLOSED, errno, "%s/state can't be written", o->state);
+    return replace_state(s->folder, text, len)
+               ? DT_DONE
+               : dtu_refuse(error, DT_CLOSED, errno, "%s/state can't be written", o->state);
 }
 
 static bool promise(struct state *s, uint64_t until) {
@@ -278,8 +311,8 @@ static void wait_ms(uint64_t ms) {
     while (nanosleep(&left, &left) != 0 && errno == EINTR) {}
 }
 
-/* Opens the folder of options.state, takes its lock, and decides how the node starts. Sets options.life and start_as, and
- * `*now` to when the node is opened: at the end of its last life, if that is known. */
+/* Opens the folder of options.state, takes its lock, and decides how the node starts. Sets options.life and start_as,
+ * and `*now` to when the node is opened: at the end of its last life, if that is known. */
 uint8_t dtu_state_open(dt_udp *u, uint64_t *now, struct dt_udp_error *error) {
     struct dt_udp_options *o = &u->options;
     struct state *s = &u->state;
@@ -297,21 +330,23 @@ uint8_t dtu_state_open(dt_udp *u, uint64_t *now, struct dt_udp_error *error) {
     look_at_last(s, o, &kept);
     s->has_until = s->ends_known;
     if (s->has_state && quiet_of(&kept) > quiet_of(&own)) wait_ms(quiet_of(&kept) - quiet_of(&own));
-    if (!s->ends_known && ftruncate(s->last, 0) != 0) return dtu_refuse(error, DT_CLOSED, errno, "%s/last can't be written", o->state);
+    if (!s->ends_known && ftruncate(s->last, 0) != 0)
+        return dtu_refuse(error, DT_CLOSED, errno, "%s/last can't be written", o->state);
     if ((status = count_life(s, o, &kept, error)) != DT_DONE) return status;
     o->life = s->life;
     o->start_as = s->again ? DT_UDP_START_AGAIN : DT_UDP_START_FIRST;
     *now = dtu_clock_ms(); /* (the wait may have taken a while) */
     if (s->ends_known && s->ended < *now) *now = s->ended;
-    if (!s->ends_known && !promise(s, *now)) return dtu_refuse(error, DT_CLOSED, errno, "%s/last can't be written", o->state);
+    if (!s->ends_known && !promise(s, *now))
+        return dtu_refuse(error, DT_CLOSED, errno, "%s/last can't be written", o->state);
     uint64_t quiet = quiet_of(&own);
     s->quiet_until = s->again ? *now + quiet : 0;
     s->ahead = quiet / 4 > LEAST_AHEAD_MS ? quiet / 4 : LEAST_AHEAD_MS;
     return DT_DONE;
 }
 
-/* Notes that at this moment a datagram may leave the node, or is passed in. False: it can't be written, and the input must
- * not be given to the node. */
+/* Notes that at this moment a datagram may leave the node, or is passed in. False: it can't be written, and the input
+ * must not be given to the node. */
 bool dtu_state_note(dt_udp *u, uint64_t at) {
     struct state *s = &u->state;
     if (s->last < 0 || at < s->quiet_until) return true;
@@ -324,7 +359,8 @@ bool dtu_state_note(dt_udp *u, uint64_t at) {
  * nothing, and the lock stays its parent's. */
 void dtu_state_close(dt_udp *u) {
     struct state *s = &u->state;
-    if (s->last >= 0 && s->noted > 0 && !u->is_copy) (void)promise(s, s->noted); /* (else what was promised ahead stands) */
+    if (s->last >= 0 && s->noted > 0 && !u->is_copy)
+        (void)promise(s, s->noted); /* (else what was promised ahead stands) */
     if (s->last >= 0) close(s->last);
     if (s->lock >= 0) close(s->lock);
     if (s->folder >= 0) close(s->folder);

@@ -1,14 +1,14 @@
-/* Peers that are learnt: nodes that nobody configured come, show that they hear at their address, and are kept for as long
- * as they speak.
+/* Peers that are learnt: nodes that nobody configured come, show that they hear at their address, and are kept for as
+ * long as they speak.
  *
- * A datagram from an address that isn't its maker's isn't passed in. It is answered by a challenge, which is no longer than
- * the datagram and leaves nothing here: its cookie is a keyed digest of the address, the node and the time. Whoever returns
- * the cookie hears at that address, so nobody is made to send to a third party. The next datagram from there is passed in,
- * and the address is kept only if octets of it were accepted: the guard decides first. The proof also has the key of the
- * prover's opening, so a peer whose address changes is heard from the new one at once, and another machine with the same
- * number isn't, until nothing came from the first one for the quiet time. While calls wait and nothing comes, a peer that
- * once asked for a proof is greeted, so that an answer finds a caller whose address changed meanwhile. docs/formats.md has
- * the form. */
+ * A datagram from an address that isn't its maker's isn't passed in. It is answered by a challenge, which is no
+ * longer than the datagram and leaves nothing here: its cookie is a keyed digest of the address, the node and the
+ * time. Whoever returns the cookie hears at that address, so nobody is made to send to a third party. The next
+ * datagram from there is passed in, and the address is kept only if octets of it were accepted: the guard decides
+ * first. The proof also has the key of the prover's opening, so a peer whose address changes is heard from the new
+ * one at once, and another machine with the same number isn't, until nothing came from the first one for the quiet
+ * time. While calls wait and nothing comes, a peer that once asked for a proof is greeted, so that an answer finds a
+ * caller whose address changed meanwhile. docs/formats.md has the form. */
 #include "udp.h"
 #include <errno.h>
 #include <stdlib.h>
@@ -16,27 +16,21 @@
 #include <sys/random.h>
 
 enum {
-    CONTROL_LEN = 28, FORM = 208, FORM_VERSION = 1, CHALLENGE = 1, PROOF = 2, GREETING = 3,
-    SPAN_MS = 16384,      /* a cookie is good for this span and the next one */
-    PROOF_MS = 20000,     /* a proof that isn't followed by a datagram is forgotten */
-    ANSWER_MS = 5,        /* one challenge of a peer is answered in so many ms */
-    GREET_MS = 50,        /* greetings leave no sooner one after another */
-    ASKED_MS = 20000,     /* a challenge counts only of a peer that was sent something in this time */
-    BURST_MS = 100, MAX_BURST = 1000, /* so many challenges in so many ms */
+    CONTROL_LEN = 28,
+    FORM = 208,
+    FORM_VERSION = 1,
+    CHALLENGE = 1,
+    PROOF = 2,
+    GREETING = 3,
+    SPAN_MS = 16384,  /* a cookie is good for this span and the next one */
+    PROOF_MS = 20000, /* a proof that isn't followed by a datagram is forgotten */
+    ANSWER_MS = 5,    /* one challenge of a peer is answered in so many ms */
+    GREET_MS = 50,    /* greetings leave no sooner one after another */
+    ASKED_MS = 20000, /* a challenge counts only of a peer that was sent something in this time */
+    BURST_MS = 100,
+    MAX_BURST = 1000,     /* so many challenges in so many ms */
     MAX_NUMBERS = 1 << 20 /* numbers that may be learnt in one opening: the library keeps a route for each */
 };
-
-/* --- octets */
-
-static void put_number(uint8_t *at, uint64_t value, int octets) {
-    for (int i = octets - 1; i >= 0; i--, value >>= 8) at[i] = (uint8_t)value;
-}
-
-static uint64_t get_number(const uint8_t *at, int octets) {
-    uint64_t value = 0;
-    for (int i = 0; i < octets; i++) value = value << 8 | at[i];
-    return value;
-}
 
 /* --- the digest: SipHash-2-4 (Aumasson, Bernstein 2012) */
 
@@ -52,7 +46,8 @@ static void mix(uint64_t v[4]) {
 }
 
 static uint64_t digest(const uint64_t key[2], const uint8_t *octets, size_t len) {
-    uint64_t v[4] = {key[0] ^ 0x736f6d6570736575u, key[1] ^ 0x646f72616e646f6du, key[0] ^ 0x6c7967656e657261u, key[1] ^ 0x7465646279746573u};
+    uint64_t v[4] = {key[0] ^ 0x736f6d6570736575u, key[1] ^ 0x646f72616e646f6du, key[0] ^ 0x6c7967656e657261u,
+                     key[1] ^ 0x7465646279746573u};
     for (size_t done = 0; done <= len; done += 8) {
         uint64_t word = done + 8 > len ? (uint64_t)len << 56 : 0;
         for (size_t i = 0; i < 8 && done + i < len; i++) word |= (uint64_t)octets[done + i] << (8 * i);
@@ -67,15 +62,15 @@ static uint64_t digest(const uint64_t key[2], const uint8_t *octets, size_t len)
 
 static uint64_t cookie_of(const dt_udp *u, const struct address *from, uint32_t node, uint64_t span) {
     uint8_t octets[40] = {0};
-    put_number(octets, span, 8);
-    put_number(octets + 8, node, 4);
+    dtu_put_number(octets, span, 8);
+    dtu_put_number(octets + 8, node, 4);
     if (from->name.any.sa_family == AF_INET) {
         memcpy(octets + 12, &from->name.v4.sin_port, 2);
         memcpy(octets + 14, &from->name.v4.sin_addr, 4);
     } else {
         memcpy(octets + 12, &from->name.v6.sin6_port, 2);
         memcpy(octets + 14, &from->name.v6.sin6_addr, 16);
-        put_number(octets + 30, from->name.v6.sin6_scope_id, 4);
+        dtu_put_number(octets + 30, from->name.v6.sin6_scope_id, 4);
     }
     return digest(u->strangers.secret, octets, sizeof octets);
 }
@@ -151,17 +146,18 @@ static struct proof *proof_of(const dt_udp *u, uint32_t node, const struct addre
 }
 
 static bool is_proved(const struct proof *it, const struct arrival *arrival, uint32_t node) {
-    return it->from.len && it->node == node && dtu_same_address(&it->from, arrival->from) && arrival->at - it->at <= PROOF_MS;
+    return it->from.len && it->node == node && dtu_same_address(&it->from, arrival->from) &&
+           arrival->at - it->at <= PROOF_MS;
 }
 
 /* --- control datagrams */
 
 static void send_control(dt_udp *u, int kind, const struct arrival *to, uint64_t cookie, uint8_t span) {
     uint8_t octets[CONTROL_LEN] = {FORM, FORM_VERSION, (uint8_t)kind, span};
-    put_number(octets + 4, u->options.node, 4);
-    put_number(octets + 8, to->maker, 4);
-    put_number(octets + 12, cookie, 8);
-    put_number(octets + 20, kind == CHALLENGE ? 0 : u->strangers.key, 8);
+    dtu_put_number(octets + 4, u->options.node, 4);
+    dtu_put_number(octets + 8, to->maker, 4);
+    dtu_put_number(octets + 12, cookie, 8);
+    dtu_put_number(octets + 20, kind == CHALLENGE ? 0 : u->strangers.key, 8);
     dtu_write_control(u, to, octets, sizeof octets);
 }
 
@@ -199,17 +195,20 @@ static void answer_challenge(dt_udp *u, const struct arrival *it) {
     }
     peer->heard = true;
     peer->proved_at = it->at;
-    send_control(u, PROOF, it, get_number(it->octets + 12, 8), it->octets[3]);
+    send_control(u, PROOF, it, dtu_get_number(it->octets + 12, 8), it->octets[3]);
     dtu_write_held(u, peer); /* (it couldn't be passed in there before) */
 }
 
 /* A stranger has proved that it hears there: it moves, or its next datagram may be passed in. */
 static void take_proof(dt_udp *u, const struct arrival *it) {
-    uint64_t span = it->at / SPAN_MS, cookie = get_number(it->octets + 12, 8), key = get_number(it->octets + 20, 8);
+    uint64_t span = it->at / SPAN_MS, cookie = dtu_get_number(it->octets + 12, 8),
+             key = dtu_get_number(it->octets + 20, 8);
     if (it->octets[3] != (uint8_t)span) span--;
-    bool good = u->strangers.proofs && it->octets[3] == (uint8_t)span && cookie == cookie_of(u, it->from, it->maker, span);
+    bool good = u->strangers.proofs && it->octets[3] == (uint8_t)span &&
+                cookie == cookie_of(u, it->from, it->maker, span);
     struct peer *peer = dtu_peers_find(&u->peers, it->maker);
-    bool moves = peer && peer->key == key, taken = peer && (peer->configured || (!moves && !is_silent(u, peer, it->at)));
+    bool moves = peer && peer->key == key,
+         taken = peer && (peer->configured || (!moves && !is_silent(u, peer, it->at)));
     if (!good || taken || it->maker == u->options.node) {
         u->counts.unknown++;
         return;
@@ -232,7 +231,9 @@ static void take_greeting(dt_udp *u, const struct arrival *it) {
 }
 
 /* How long nothing may come from a peer before it is greeted. */
-static uint64_t greet_ms(const dt_udp *u) { return 2 * u->options.params.rto > GREET_MS ? 2 * (uint64_t)u->options.params.rto : GREET_MS; }
+static uint64_t greet_ms(const dt_udp *u) {
+    return 2 * u->options.params.rto > GREET_MS ? 2 * (uint64_t)u->options.params.rto : GREET_MS;
+}
 
 /* When the driver wants to greet peers: only while calls wait. */
 uint64_t dtu_strangers_wake(const dt_udp *u) {
@@ -253,8 +254,9 @@ void dtu_strangers_greet(dt_udp *u, uint64_t at) {
 /* Whether a datagram is one of the drivers' own, and not a frame; then it is handled. */
 bool dtu_is_control(dt_udp *u, struct arrival *it) {
     if (it->len == 0 || it->octets[0] != FORM) return false;
-    bool known = it->len == CONTROL_LEN && it->octets[1] == FORM_VERSION && get_number(it->octets + 8, 4) == u->options.node;
-    it->maker = known ? (uint32_t)get_number(it->octets + 4, 4) : 0;
+    bool known = it->len == CONTROL_LEN && it->octets[1] == FORM_VERSION &&
+                 dtu_get_number(it->octets + 8, 4) == u->options.node;
+    it->maker = known ? (uint32_t)dtu_get_number(it->octets + 4, 4) : 0;
     if (known && it->octets[2] == CHALLENGE) answer_challenge(u, it);
     else if (known && it->octets[2] == PROOF) take_proof(u, it);
     else if (known && it->octets[2] == GREETING) take_greeting(u, it);
@@ -269,9 +271,9 @@ bool dtu_is_control(dt_udp *u, struct arrival *it) {
 static bool is_plausible(const dt_udp *u, const struct arrival *it, const struct peer *peer) {
     const uint8_t *d = it->octets;
     if (it->len < CONTROL_LEN || (d[0] != 1 && d[0] != 2) || d[1] != 1) return false;
-    if (get_number(d + 12, 4) != u->options.node || it->maker == u->options.node) return false;
+    if (dtu_get_number(d + 12, 4) != u->options.node || it->maker == u->options.node) return false;
     if (peer) return !peer->configured;
-    uint16_t port = (uint16_t)get_number(d + 20, 2);
+    uint16_t port = (uint16_t)dtu_get_number(d + 20, 2);
     return d[16] == 1 && (u->options.flags & DT_UDP_ALL_PORTS || u->ports.open[port / 8] >> port % 8 & 1);
 }
 
@@ -279,7 +281,8 @@ static bool is_plausible(const dt_udp *u, const struct arrival *it, const struct
 static void keep(dt_udp *u, const struct arrival *it, struct peer *peer, struct proof *proof) {
     struct strangers *s = &u->strangers;
     if (peer == NULL) {
-        if (!makes_room(u, it->at) || s->numbers >= MAX_NUMBERS || dtu_core_add_route(&u->core, it->maker) != DT_DONE) return;
+        if (!makes_room(u, it->at) || s->numbers >= MAX_NUMBERS || dtu_core_add_route(&u->core, it->maker) != DT_DONE)
+            return;
         if ((peer = dtu_peers_add(&u->peers, it->maker)) == NULL) return;
         s->numbers++;
         s->count++;

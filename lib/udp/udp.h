@@ -12,6 +12,8 @@
  *   loop.c      the wait, the descriptor, the timer
  *   events.c    what dt_udp_next returns
  *   calls.c     what a program asks of the node
+ *   objects.c   objects, in chunks over several flows
+ *   octets.c    numbers in octets
  */
 #ifndef DELTAT_UDP_INTERNAL_H
 #define DELTAT_UDP_INTERNAL_H
@@ -180,6 +182,29 @@ struct ports {
     size_t count, size;
 };
 
+enum { PAST_OBJECTS = 1024, MAX_PARTS = 1024 };
+
+struct receiving;
+struct target;
+
+struct past { uint64_t number; uint32_t node; bool some; };
+
+struct objects {
+    struct target *targets;
+    struct receiving *parts, *whole, *last_whole, *lent;
+    uint64_t number;                 /* of the object that was put last */
+    uint64_t window;                 /* octets of chunks under way to one node, at most */
+    uint64_t not_sent, adapted_at;   /* the count when the window was last changed, and when that was */
+    uint64_t refused_at;             /* when a sender was last refused */
+    uint64_t next_deadline;          /* the first of those that are sent, or sooner */
+    uint64_t max_octets, held_octets; /* of objects that are received and weren't taken */
+    uint32_t sending, ended;         /* objects whose end wasn't taken; of these: that have one */
+    uint32_t part_count, past_at;
+    uint16_t first_port, lanes;      /* lanes 0: none are received or sent */
+    struct past past[PAST_OBJECTS];  /* the objects that were whole last: chunks of them may still arrive */
+    uint8_t room[65536];             /* a message that is sent */
+};
+
 /* The state folder; its descriptors are -1 without one. */
 struct state {
     int folder, lock, last;
@@ -201,6 +226,7 @@ struct dt_udp {
     struct strangers strangers;
     struct held held;
     struct state state;
+    struct objects objects;
     struct queue queue;
     struct reports reports;
     struct message *lent;  /* what the last event points to */
@@ -293,6 +319,20 @@ void dtu_stranger(dt_udp *u, const struct arrival *arrival);
 uint8_t dtu_state_open(dt_udp *u, uint64_t *now, struct dt_udp_error *error);
 bool dtu_state_note(dt_udp *u, uint64_t at);
 void dtu_state_close(dt_udp *u);
+
+/* --- objects.c */
+void dtu_objects_close(dt_udp *u);
+void dtu_objects_free(struct receiving *object);
+bool dtu_objects_send(dt_udp *u);
+void dtu_objects_release(dt_udp *u);
+uint64_t dtu_objects_wake(const dt_udp *u);
+void dtu_objects_report(dt_udp *u, const struct dt_report *report);
+bool dtu_objects_message(dt_udp *u, const struct dt_flow *flow, const uint8_t *octets, size_t len);
+bool dtu_objects_event(dt_udp *u);
+
+/* --- octets.c */
+void dtu_put_number(uint8_t *at, uint64_t value, int octets);
+uint64_t dtu_get_number(const uint8_t *at, int octets);
 
 /* --- clocks.c */
 uint64_t dtu_clock_ms(void);

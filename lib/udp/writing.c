@@ -71,8 +71,8 @@ static void add(dt_udp *u, struct peer *peer, struct iovec *part) {
         .msg_name = &peer->at.name, .msg_namelen = peer->at.len, .msg_iov = part, .msg_iovlen = 1};
 }
 
-/* Takes frames from the node, as many as are sent at once. False: none waits any more. (A trailer would be written behind
- * each frame here, into the TRAILER octets of its room.) */
+/* Takes frames from the node, as many as are sent at once. False: none waits any more. (A trailer would be written
+ * behind each frame here, into the TRAILER octets of its room.) */
 static bool gather(dt_udp *u, unsigned *parts) {
     uint32_t to;
     u->out.count = *parts = 0;
@@ -182,7 +182,11 @@ void dtu_write_control(dt_udp *u, const struct arrival *to, const uint8_t *octet
     _Alignas(struct cmsghdr) char control[CONTROL_ROOM] = {0};
     struct address address = *to->from;
     struct iovec part = {(void *)(uintptr_t)octets, len};
-    struct msghdr head = {.msg_name = &address.name, .msg_namelen = address.len, .msg_iov = &part, .msg_iovlen = 1, .msg_control = control};
+    struct msghdr head = {.msg_name = &address.name,
+                          .msg_namelen = address.len,
+                          .msg_iov = &part,
+                          .msg_iovlen = 1,
+                          .msg_control = control};
     if (u->every_address) add_own_address(&head, &to->own);
     if (head.msg_controllen == 0) head.msg_control = NULL;
     u->counts.writes++;
@@ -198,9 +202,8 @@ void dtu_write_held(dt_udp *u, const struct peer *peer) {
     it->len = 0;
 }
 
-/* Puts every frame that waits on the wire. What is late counts as lost: its life says nothing of the time that it waited
- * here. */
-void dtu_write_all(dt_udp *u) {
+/* Sends the frames that wait. What is late counts as lost: its life says nothing of the time that it waited here. */
+static void write_frames(dt_udp *u) {
     if (u->out.made_at == NEVER) return;
     unsigned parts;
     for (bool more = true; more;) {
@@ -210,4 +213,13 @@ void dtu_write_all(dt_udp *u) {
     }
     u->out.made_at = NEVER;
     dtu_loop_arm(u);
+}
+
+/* Puts everything that waits on the wire: of objects a part at a time, so that none of it is late. */
+void dtu_write_all(dt_udp *u) {
+    bool more;
+    do {
+        more = dtu_objects_send(u);
+        write_frames(u);
+    } while (more && !u->failed);
 }

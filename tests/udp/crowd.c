@@ -33,10 +33,15 @@ static void die(const char *why) {
 }
 
 static void begin(struct client *it, uint32_t node, const char *port, int many) {
-    struct dt_udp_options options = {
-        .size = sizeof options, .node = node, .host = "127.0.0.1", .role = DT_UDP_ROLE_SERVICE, .charge = 294, .life = 1,
-        .params = {482, 2000, 5, 90, 180, 1442, 65536, 65536, 65536, 2147483648u, 0}, .start_as = DT_UDP_START_FIRST,
-        .flags = DT_UDP_WITHOUT_SEGMENTS};
+    struct dt_udp_options options = {.size = sizeof options,
+                                     .node = node,
+                                     .host = "127.0.0.1",
+                                     .role = DT_UDP_ROLE_SERVICE,
+                                     .charge = 294,
+                                     .life = 1,
+                                     .params = {482, 2000, 5, 90, 180, 1442, 65536, 65536, 65536, 2147483648u, 0},
+                                     .start_as = DT_UDP_START_FIRST,
+                                     .flags = DT_UDP_WITHOUT_SEGMENTS};
     struct dt_udp_error error;
     *it = (struct client){.udp = dt_udp_open(&options, &error), .node = node};
     if (it->udp == NULL || dt_udp_peer(it->udp, 2, "127.0.0.1", port, &error) != DT_DONE) die(error.text);
@@ -73,7 +78,8 @@ static bool goes(struct client *it) {
 
 int main(int count, char **words) {
     if (count != 5) die("usage: crowd PORT FIRST COUNT MANY");
-    uint32_t node = (uint32_t)atoi(words[2]), end = node + (uint32_t)atoi(words[3]), size = (uint32_t)atoi(words[4]), left = 0;
+    uint32_t node = (uint32_t)atoi(words[2]), end = node + (uint32_t)atoi(words[3]), size = (uint32_t)atoi(words[4]),
+             left = 0;
     struct client *all = calloc(size, sizeof *all);
     int many = epoll_create1(0);
     if (all == NULL || many < 0) die("out of memory");

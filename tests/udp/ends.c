@@ -97,7 +97,8 @@ static void make_calls(struct end *it) {
         fill(it, it->made, it->octets);
         struct dt_made made = dt_udp_call(it->udp, &flow, it->room, it->octets, number(it, "timeout", 5000));
         if (made.status == DT_FULL || made.status == DT_QUIET || made.status == DT_MANY) break;
-        if (made.status == DT_DONE) it->calls[it->made % 4096] = made.number, it->made_at[it->made % 4096] = milliseconds(), it->under_way++;
+        if (made.status == DT_DONE)
+            it->calls[it->made % 4096] = made.number, it->made_at[it->made % 4096] = milliseconds(), it->under_way++;
         else it->declined++;
         it->made++;
     }
@@ -190,7 +191,8 @@ static void handle(struct end *it, const struct dt_udp_event *event) {
         reply(it, &event->token, event->len);
     } else if (event->kind == DT_UDP_EVENT_ANSWER || event->kind == DT_UDP_EVENT_UNSURE) ended(it, event);
     else if (event->kind == DT_UDP_EVENT_MESSAGE) echoed(it, event);
-    else if (event->kind == DT_UDP_EVENT_TOO_BIG) printf("too big: %zu octets to %u\n", event->len, event->peer), it->over = true;
+    else if (event->kind == DT_UDP_EVENT_TOO_BIG)
+        printf("too big: %zu octets to %u\n", event->len, event->peer), it->over = true;
     else if (event->kind == DT_UDP_EVENT_FAILED) {
         fprintf(stderr, "ends: failed: status %u, %s\n", event->cause, strerror(event->system_error));
         exit(3);
@@ -266,17 +268,26 @@ static void by_glib(struct end *it) {
 
 static dt_udp *opened(struct end *it) {
     struct dt_udp_options options = {
-        .size = sizeof options, .node = it->node, .host = word(it, "host", NULL), .port = word(it, "port", NULL),
-        .params = {482, number(it, "r", 450), 5, 90, 180, number(it, "seg", 1442), 65536, 65536, 65536, 2147483648u, 0}, .charge = 294,
+        .size = sizeof options,
+        .node = it->node,
+        .host = word(it, "host", NULL),
+        .port = word(it, "port", NULL),
+        .params = {482, number(it, "r", 450), 5, 90, 180, number(it, "seg", 1442), 65536, 65536, 65536, 2147483648u, 0},
+        .charge = 294,
         .state = word(it, "state", NULL),
-        .start_as = word(it, "state", NULL) ? DT_UDP_START_BY_STATE : number(it, "again", 0) ? DT_UDP_START_AGAIN : DT_UDP_START_FIRST, .life = number(it, "life", 1),
-        .flags = number(it, "flags", 0), .max_peers = number(it, "learns", 0)};
+        .start_as = word(it, "state", NULL)  ? DT_UDP_START_BY_STATE
+                    : number(it, "again", 0) ? DT_UDP_START_AGAIN
+                                             : DT_UDP_START_FIRST,
+        .life = number(it, "life", 1),
+        .flags = number(it, "flags", 0),
+        .max_peers = number(it, "learns", 0)};
     bool calls = strcmp(it->mode, "ask") == 0 || strcmp(it->mode, "serve") == 0;
     options.role = calls ? DT_UDP_ROLE_SERVICE : DT_UDP_ROLE_NODE;
     struct dt_udp_error error;
     dt_udp *udp = dt_udp_open(&options, &error);
     if (udp == NULL) die(error.text);
-    if (it->peer && dt_udp_peer(udp, it->peer, word(it, "peer_host", "127.0.0.1"), word(it, "peer_port", "4002"), &error) != DT_DONE)
+    if (it->peer && dt_udp_peer(udp, it->peer, word(it, "peer_host", "127.0.0.1"), word(it, "peer_port", "4002"),
+                                &error) != DT_DONE)
         die(error.text);
     bool asks = strcmp(it->mode, "ask") == 0 || strcmp(it->mode, "say") == 0;
     uint8_t kind = (uint8_t)(!calls ? 0 : asks ? DT_CALLER : DT_SERVICE);
@@ -287,11 +298,13 @@ static dt_udp *opened(struct end *it) {
 static void tell(const struct end *it) {
     const struct dt_udp_counts *c = dt_udp_get_counts(it->udp);
     if (strcmp(it->mode, "ask") == 0)
-        printf("answered %u unsure %u wrong %u declined %u longest %" PRIu64 "\n", it->answered, it->unsure, it->wrong, it->declined,
-               it->longest);
+        printf("answered %u unsure %u wrong %u declined %u longest %" PRIu64 "\n", it->answered, it->unsure, it->wrong,
+               it->declined, it->longest);
     if (strcmp(it->mode, "say") == 0) printf("echoed %u wrong %u\n", it->answered, it->wrong);
-    printf("reads %" PRIu64 " writes %" PRIu64 " in %" PRIu64 " out %" PRIu64 " unknown %" PRIu64 " not_sent %" PRIu64 " too_big %" PRIu64
-           " steps %" PRIu64 " learnt %" PRIu64 " moved %" PRIu64 " forgotten %" PRIu64 " challenges %" PRIu64 "\n", c->reads, c->writes, c->datagrams_in, c->datagrams_out, c->unknown, c->not_sent, c->too_big, c->clock_steps,
+    printf("reads %" PRIu64 " writes %" PRIu64 " in %" PRIu64 " out %" PRIu64 " unknown %" PRIu64 " not_sent %" PRIu64
+           " too_big %" PRIu64 " steps %" PRIu64 " learnt %" PRIu64 " moved %" PRIu64 " forgotten %" PRIu64
+           " challenges %" PRIu64 "\n",
+           c->reads, c->writes, c->datagrams_in, c->datagrams_out, c->unknown, c->not_sent, c->too_big, c->clock_steps,
            c->peers_learnt, c->peers_moved, c->peers_forgotten, c->challenges_out);
 }
 
@@ -308,7 +321,8 @@ int main(int count, char **words) {
     end.log = word(&end, "log", NULL) ? fopen(word(&end, "log", ""), "a") : NULL;
     sigaction(SIGTERM, &(struct sigaction){.sa_handler = stop}, NULL);
     end.udp = opened(&end);
-    printf("port %u life %u silent %" PRIu64 "\n", dt_udp_local_port(end.udp), dt_udp_life(end.udp), dt_udp_silent_ms(end.udp));
+    printf("port %u life %u silent %" PRIu64 "\n", dt_udp_local_port(end.udp), dt_udp_life(end.udp),
+           dt_udp_silent_ms(end.udp));
     fflush(stdout);
     if (strcmp(words[2], "next") == 0) by_next(&end);
     else if (strcmp(words[2], "poll") == 0) by_poll(&end);

@@ -13,10 +13,15 @@
     } while (0)
 
 static dt_udp *opened(uint32_t node, const char *port, uint32_t peer, const char *peer_port) {
-    struct dt_udp_options options = {
-        .size = sizeof options, .node = node, .host = "127.0.0.1", .port = port, .role = DT_UDP_ROLE_SERVICE,
-        .params = {482, 450, 5, 90, 180, 1442, 65536, 65536, 65536, 2147483648u, 0}, .charge = 294,
-        .start_as = DT_UDP_START_FIRST, .life = 1};
+    struct dt_udp_options options = {.size = sizeof options,
+                                     .node = node,
+                                     .host = "127.0.0.1",
+                                     .port = port,
+                                     .role = DT_UDP_ROLE_SERVICE,
+                                     .params = {482, 450, 5, 90, 180, 1442, 65536, 65536, 65536, 2147483648u, 0},
+                                     .charge = 294,
+                                     .start_as = DT_UDP_START_FIRST,
+                                     .life = 1};
     struct dt_udp_error error;
     dt_udp *udp = dt_udp_open(&options, &error);
     WANT(udp);
@@ -29,7 +34,8 @@ static bool answered(dt_udp *client, dt_udp *service) {
     WANT(dt_udp_call(client, &flow, "hello", 5, 5000).status == DT_DONE);
     for (int i = 0; i < 5000; i++) {
         const struct dt_udp_event *event = dt_udp_next(service, 1);
-        if (event->kind == DT_UDP_EVENT_REQUEST) WANT(dt_udp_reply(service, &event->token, event->octets, event->len).status == DT_DONE);
+        if (event->kind == DT_UDP_EVENT_REQUEST)
+            WANT(dt_udp_reply(service, &event->token, event->octets, event->len).status == DT_DONE);
         WANT(event->kind != DT_UDP_EVENT_FAILED);
         event = dt_udp_next(client, 1);
         if (event->kind == DT_UDP_EVENT_ANSWER) return event->len == 5 && memcmp(event->octets, "hello", 5) == 0;

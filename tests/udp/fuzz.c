@@ -1,6 +1,7 @@
-/* Any octets as datagrams of the driver over a UDP socket, with real sockets of this machine: tests/udp_fuzz.py builds and runs
- * it. An input is a head (node or service, flags) and records: which socket speaks, what it says, and how many octets of the
- * input it says. Socket 0 has the address of the configured peer, and 1 and 2 are strangers, who may learn cookies.
+/* Any octets as datagrams of the driver over a UDP socket, with real sockets of this machine: tests/udp_fuzz.py
+ * builds and runs it. An input is a head (node or service, flags) and records: which socket speaks, what it says, and
+ * how many octets of the input it says. Socket 0 has the address of the configured peer, and 1 and 2 are strangers,
+ * who may learn cookies.
  *
  * A fault is what the sanitizers see; an event that has no kind, or octets that can't be read; and a stranger who has
  * received more than it sent, or anything but challenges, before it returned a cookie. With -DALONE it has a main:
@@ -33,6 +34,7 @@ struct world {
     dt_udp *udp;
     struct speaker all[SOCKETS];
     struct sockaddr_in target;
+    uint8_t object[3000];
     uint64_t sum; /* of all octets that are handed out: so each of them is read */
 };
 
@@ -75,7 +77,9 @@ static void say_frame(struct world *w, struct speaker *it, const uint8_t *octets
     put(frame + 2, 14 + body, 2);
     put(frame + 8, it->node, 4), put(frame + 12, ME, 4);
     frame[16] = kind, frame[17] = flags;
-    put(frame + 18, 10, 2), put(frame + 20, len > 2 && octets[2] & 1 ? 21 : 20, 2);
+    static const uint16_t PORTS[] = {20, 20, 21, 30, 31, 32};
+    uint16_t port = PORTS[len > 2 ? octets[2] % 6 : 0];
+    put(frame + 18, port >= 30 ? port : 10, 2), put(frame + 20, port, 2);
     put(frame + 22, len > 3 ? octets[3] : 0, 4);
     memcpy(frame + FRAME, octets + (len - body), body);
     say(w, it, &(struct iovec){frame, FRAME + body}, 0);
@@ -99,7 +103,7 @@ static void take_events(struct world *w) {
     const struct dt_udp_event *event;
     while ((event = dt_udp_next(w->udp, 0))->kind != DT_UDP_EVENT_NONE) {
         WANT(event->kind <= DT_UDP_EVENT_FAILED);
-        for (size_t i = 0; i < event->len && event->kind != DT_UDP_EVENT_TOO_BIG; i++) w->sum += event->octets[i];
+        for (size_t i = 0; i < event->len && event->octets; i++) w->sum += event->octets[i];
         if (event->kind == DT_UDP_EVENT_REQUEST) dt_udp_reply(w->udp, &event->token, event->octets, event->len);
         if (event->kind == DT_UDP_EVENT_MESSAGE) {
             struct dt_flow back = {event->flow.to, event->flow.from, event->flow.to_port, event->flow.from_port};
@@ -113,6 +117,8 @@ static void act(struct world *w, uint8_t what, const uint8_t *octets, size_t len
     struct dt_flow flow = {ME, what & 1 ? PEER : 500, 20, 20};
     if (dt_udp_service(w->udp)) dt_udp_call(w->udp, &flow, octets, len, 1000);
     else dt_udp_send(w->udp, &flow, octets, len);
+    if (what & 16 && dt_udp_node(w->udp))
+        dt_udp_put(w->udp, what & 1 ? PEER : 500, w->object, what & 32 ? sizeof w->object : len, 100);
     if (what & 2) dt_udp_flush(w->udp);
     if (what & 4) dt_udp_drain(w->udp, 0);
     if (what & 8) (void)dt_udp_fd(w->udp);
@@ -125,7 +131,8 @@ static void record(struct world *w, uint8_t op, const uint8_t *octets, size_t le
     case 1: say_frame(w, it, octets, len); break;
     case 2: say_control(w, it, octets, len); break;
     case 3:
-        if (len > 1) say(w, it, &(struct iovec){(void *)(uintptr_t)(octets + 1), len - 1}, (uint16_t)(1 + octets[0] % 64));
+        if (len > 1)
+            say(w, it, &(struct iovec){(void *)(uintptr_t)(octets + 1), len - 1}, (uint16_t)(1 + octets[0] % 64));
         break;
     case 4: act(w, len ? octets[0] : 0, octets, len); break;
     default: break;
@@ -136,17 +143,29 @@ static void record(struct world *w, uint8_t op, const uint8_t *octets, size_t le
 /* --- an input */
 
 static void begin(struct world *w, const uint8_t *head) {
-    struct dt_udp_options options = {
-        .size = sizeof options, .node = ME, .host = "127.0.0.1", .charge = 10, .params = {40, 40, 1, 10, 20, 200, 2000, 2000, 2000, 2147483648u, 0},
-        .start_as = DT_UDP_START_FIRST, .life = 1, .max_peers = head[1] & 3, .flags = head[2] & 15, .report_kinds = head[3] & 1 ? UINT32_MAX : 0,
-        .role = head[0] & 1 ? DT_UDP_ROLE_SERVICE : DT_UDP_ROLE_NODE, .max_message = 3000, .max_queued = 5000};
+    struct dt_udp_options options = {.size = sizeof options,
+                                     .node = ME,
+                                     .host = "127.0.0.1",
+                                     .charge = 10,
+                                     .params = {40, 40, 1, 10, 20, 200, 2000, 2000, 2000, 2147483648u, 0},
+                                     .start_as = DT_UDP_START_FIRST,
+                                     .life = 1,
+                                     .max_peers = head[1] & 3,
+                                     .flags = head[2] & 15,
+                                     .report_kinds = head[3] & 1 ? UINT32_MAX : 0,
+                                     .role = head[0] & 1 ? DT_UDP_ROLE_SERVICE : DT_UDP_ROLE_NODE,
+                                     .max_message = 3000,
+                                     .max_queued = 5000};
     struct dt_udp_error error;
     w->udp = dt_udp_open(&options, &error);
     WANT(w->udp);
-    w->target = (struct sockaddr_in){.sin_family = AF_INET, .sin_port = htons(dt_udp_local_port(w->udp)), .sin_addr.s_addr = htonl(INADDR_LOOPBACK)};
+    w->target = (struct sockaddr_in){
+        .sin_family = AF_INET, .sin_port = htons(dt_udp_local_port(w->udp)), .sin_addr.s_addr = htonl(INADDR_LOOPBACK)};
     for (uint32_t i = 0; i < SOCKETS; i++) {
         struct sockaddr_in any = {.sin_family = AF_INET, .sin_addr.s_addr = htonl(INADDR_LOOPBACK)};
-        w->all[i] = (struct speaker){.socket = socket(AF_INET, SOCK_DGRAM, 0), .node = i == 0 ? PEER : 499 + (head[3] & 2 ? 1 : i), .proved = i == 0};
+        w->all[i] = (struct speaker){.socket = socket(AF_INET, SOCK_DGRAM, 0),
+                                     .node = i == 0 ? PEER : 499 + (head[3] & 2 ? 1 : i),
+                                     .proved = i == 0};
         WANT(w->all[i].socket >= 0 && bind(w->all[i].socket, (struct sockaddr *)&any, sizeof any) == 0);
     }
     struct sockaddr_in peer;
@@ -156,6 +175,7 @@ static void begin(struct world *w, const uint8_t *head) {
     snprintf(port, sizeof port, "%u", ntohs(peer.sin_port));
     WANT(dt_udp_peer(w->udp, PEER, "127.0.0.1", port, &error) == DT_DONE);
     WANT(dt_udp_open_port(w->udp, 20, head[0] & 1 ? (head[0] & 2 ? DT_CALLER : DT_SERVICE) : 0) == DT_DONE);
+    if (dt_udp_node(w->udp)) WANT(dt_udp_open_objects(w->udp, 30, 2, 20000) == DT_DONE);
 }
 
 int LLVMFuzzerTestOneInput(const uint8_t *octets, size_t len) {
@@ -190,7 +210,8 @@ int main(int count, char **words) {
             for (uint64_t records = drawn(&state) % 40; records > 0; records--) {
                 octets[len] = (uint8_t)drawn(&state);
                 uint8_t said = octets[len + 1] = (uint8_t)(drawn(&state) % 60);
-                for (len += 2; said > 0; said--) octets[len++] = (uint8_t)(drawn(&state) % 3 ? drawn(&state) % 4 : drawn(&state));
+                for (len += 2; said > 0; said--)
+                    octets[len++] = (uint8_t)(drawn(&state) % 3 ? drawn(&state) % 4 : drawn(&state));
             }
             LLVMFuzzerTestOneInput(octets, len);
         }
