@@ -6,7 +6,7 @@ the inputs, and keeps those that reach other code of the driver; else they are d
 input fails, which is kept in a folder that is named; with 77 where there is no compiler or no archive. Before that
 the checks have to find fault with a driver that answers strangers with frames.
 
-In tests/all: --seconds 60, 300 s."""
+In tests/all: --seconds 60, 900 s."""
 import argparse
 import pathlib
 import re

@@ -182,10 +182,15 @@ static bool next_failure(dt_udp *u) {
     return true;
 }
 
-/* Before events that wait are handed out: a program that is slow mustn't keep the node from its work. */
-static void keep_up(dt_udp *u, uint64_t now) {
-    if (now - u->turned_at >= TURN_MS) dtu_loop_turn(u, 0);
-    else if (u->out.made_at != NEVER && now - u->out.made_at >= FLUSH_MS) dtu_write_all(u);
+/* Before events that wait are handed out: a program that is slow mustn't keep the node from its work. Whether the socket was
+ * looked at. */
+static bool keep_up(dt_udp *u, uint64_t now) {
+    if (now - u->turned_at >= TURN_MS) {
+        dtu_loop_turn(u, 0);
+        return true;
+    }
+    if (u->out.made_at != NEVER && now - u->out.made_at >= FLUSH_MS) dtu_write_all(u);
+    return false;
 }
 
 const struct dt_udp_event *dt_udp_next(dt_udp *u, int wait_ms) {
@@ -198,9 +203,8 @@ const struct dt_udp_event *dt_udp_next(dt_udp *u, int wait_ms) {
         return &u->event;
     }
     uint64_t now = dtu_clock_ms(), end = wait_ms < 0 ? NEVER : now + (uint64_t)wait_ms;
-    keep_up(u, now);
     u->interrupted = false;
-    for (bool looked = false; !next_event(u) && !next_failure(u); looked = true) {
+    for (bool looked = keep_up(u, now); !next_event(u) && !next_failure(u); looked = true) {
         now = wait_ms > 0 ? dtu_clock_ms() : now;
         if (looked && !u->in.full && (u->interrupted || now >= end)) break;
         uint64_t left = end - now;
