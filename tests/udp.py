@@ -396,6 +396,17 @@ def forked(built: Built, folder: pathlib.Path) -> str:
     return "the child is refused"
 
 
+def threads(built: Built, folder: pathlib.Path) -> str:
+    """Two drivers in two threads, with the thread sanitizer."""
+    flags = [*(it for it in FLAGS if it not in SANITIZED), "-fsanitize=thread"]
+    program = built.compiled("threads", [HERE / "threads.c"], flags, ["-pthread"])
+    ran = subprocess.run([str(program), "500"], capture_output=True, text=True, timeout=PATIENCE, check=False)
+    if "unexpected memory mapping" in ran.stderr:
+        return "left out: the thread sanitizer doesn't run on this kernel"
+    wants(ran.returncode == 0 and ran.stdout == "answered 500\n", ran.stdout + ran.stderr[-2000:])
+    return "500 calls"
+
+
 def narrow(built: Built, folder: pathlib.Path) -> str:
     """A segment that doesn't fit the path is reported; one that fits passes."""
     if os.geteuid() or not shutil.which("unshare") or not shutil.which("ip"):
@@ -723,6 +734,7 @@ CASES: list[Callable[[Built, pathlib.Path], str]] = [
     loss,
     killed,
     forked,
+    threads,
     narrow,
     learnt,
     rebinds,
