@@ -71,6 +71,32 @@ static void add(dt_udp *u, struct peer *peer, struct iovec *part) {
         .msg_name = &peer->at.name, .msg_namelen = peer->at.len, .msg_iov = part, .msg_iovlen = 1};
 }
 
+/* An acknowledgement often waits before longer frames to the same peer. Behind them it leaves with them by one call, and
+ * arrives with them too; the order of datagrams means nothing. */
+static bool moves_behind(const dt_udp *u, unsigned i) {
+    const struct msghdr *one = &u->out.heads[i].msg_hdr, *many = &u->out.heads[i + 1].msg_hdr;
+    size_t each = many->msg_iov[0].iov_len, count = many->msg_iovlen;
+    return u->out.peers[i] == u->out.peers[i + 1] && one->msg_iovlen == 1 && one->msg_iov->iov_len <= each &&
+           many->msg_iov[count - 1].iov_len == each && count < MAX_SEGMENTS && (count + 1) * each <= MAX_JOINED;
+}
+
+static void move_behind(dt_udp *u) {
+    unsigned kept = 0;
+    for (unsigned i = 0; i < u->out.count; i++, kept++) {
+        if (u->segments && i + 1 < u->out.count && moves_behind(u, i)) {
+            struct msghdr *many = &u->out.heads[i + 1].msg_hdr;
+            struct iovec small = *u->out.heads[i].msg_hdr.msg_iov;
+            many->msg_iov--; /* (its parts lie behind that one) */
+            memmove(many->msg_iov, many->msg_iov + 1, many->msg_iovlen * sizeof small);
+            many->msg_iov[many->msg_iovlen++] = small;
+            i++;
+        }
+        u->out.heads[kept].msg_hdr = u->out.heads[i].msg_hdr;
+        u->out.peers[kept] = u->out.peers[i];
+    }
+    u->out.count = kept;
+}
+
 /* Takes frames from the node, as many as are sent at once. False: none waits any more. (A trailer would be written
  * behind each frame here, into the TRAILER octets of its room.) */
 static bool gather(dt_udp *u, unsigned *parts) {
@@ -165,6 +191,7 @@ static int send_some(dt_udp *u, unsigned i) {
 }
 
 static void send_heads(dt_udp *u) {
+    move_behind(u);
     for (unsigned i = 0; i < u->out.count; i++) set_controls(u, i);
     for (unsigned i = 0; i < u->out.count;) {
         int took = send_some(u, i), why = errno;
