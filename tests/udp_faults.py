@@ -59,7 +59,7 @@ FAULTS = [
     Fault("flock", "EAGAIN EINTR ENOLCK", 1, (REFUSED,), "poll", {"state": True}),
     Fault("fsync", "EIO ENOSPC", 4, (REFUSED,), "poll", {"state": True}),
     Fault("renameat", "EIO", 1, (REFUSED,), "poll", {"state": True}),
-    Fault("ftruncate", "EIO", 4, (OK, REFUSED, FAILED), "poll", {"state": True}),
+    Fault("ftruncate", "EIO", 4, (OK, REFUSED, FAILED, "declined"), "poll", {"state": True}),
     Fault("pwrite64", "ENOSPC EIO", 4, (OK, REFUSED, FAILED, "declined"), "poll", {"state": True}),
     Fault("readlink", "EACCES ENOENT", 2, (OK,), "poll", {"state": True}),
     Fault("getdents64", "EIO", 1, (REFUSED,), "poll", {"state": True}),
