@@ -46,7 +46,7 @@ typedef struct dt_udp dt_udp;
 enum dt_udp_role { DT_UDP_ROLE_NODE = 1, DT_UDP_ROLE_SERVICE = 2 };
 
 enum dt_udp_start {
-    DT_UDP_START_BY_STATE = 0, /* the state folder knows; without `state` this is refused */
+    DT_UDP_START_BY_STATE = 0, /* as the state folder says; without `state` this is refused */
     DT_UDP_START_FIRST = 1,    /* the number was never used, or not for dt_quiet() ms */
     DT_UDP_START_AGAIN = 2     /* it may have been: the node is silent for dt_quiet() ms. With `state`: for all of
                                   them, and the life is drawn, as after a machine was set back to a snapshot */
@@ -214,7 +214,7 @@ struct dt_udp_put_result {
 uint8_t dt_udp_open_objects(dt_udp *udp, uint16_t first_port, uint16_t lanes, uint64_t max_octets);
 
 /* Sends an object of at most 2^32 - 1 octets to a node, whole, and at most once. The octets stay yours: keep them
- * unchanged until DT_UDP_EVENT_PUT, which comes within `timeout_ms` and 2 mpl + r + a.
+ * unchanged until DT_UDP_EVENT_PUT, which arrives within `timeout_ms` and 2 mpl + r + a.
  *   DT_DONE
  *   DT_REFUSED    dt_udp_open_objects wasn't called, the target is this node, `len` is too great, or `timeout_ms` is 0
  *   DT_NO_MEMORY  nothing changed

@@ -310,7 +310,7 @@ def loss(built: Built, folder: pathlib.Path) -> str:
     relay = Relay(0.01, server_port)
     relay.start()
     server = End(
-        built("ends"), "serve", "epoll", host=HOST, port=server_port, node=2, peer=1, peer_port=relay.far_port, log=log
+        built("ends"), "serve", "epoll", host=HOST, port=server_port, node=2, r=3000, peer=1, peer_port=relay.far_port, log=log
     )
     client = End(
         built("ends"),
@@ -322,6 +322,7 @@ def loss(built: Built, folder: pathlib.Path) -> str:
         peer_port=relay.near_port,
         count=3000,
         many=16,
+        r=3000,
         timeout=20000,
     )
     found = figures(client.ended())
@@ -381,6 +382,26 @@ def killed(built: Built, folder: pathlib.Path) -> str:
         "each answered request is served, and none twice",
     )
     return f"{found['answered']} answered, {found['unsure']} unsure, {len(served)} served, none twice"
+
+
+def stopped(built: Built, folder: pathlib.Path) -> str:
+    """Each end is stopped (SIGSTOP) for longer than a datagram may be under way: what waited in its socket counts as old."""
+    ports, log = (free_port(), free_port()), folder / "stopped.log"
+    server = End(built("ends"), "serve", "next", host=HOST, port=ports[0], node=2, peer=1, peer_port=ports[1], log=log)
+    asks = {"count": 20000, "many": 8, "timeout": 8000}
+    client = End(built("ends"), "ask", "poll", host=HOST, port=ports[1], node=1, peer=2, peer_port=ports[0], **asks)
+    for seconds in (0.1, 0.6, 1.5):
+        for it in (server, client):
+            it.process.send_signal(signal.SIGSTOP)
+            time.sleep(seconds)
+            it.process.send_signal(signal.SIGCONT)
+            time.sleep(0.3)
+    found = figures(client.ended())
+    server.stop()
+    served = log.read_text().split()
+    wants(found["answered"] + found["unsure"] == 20000 and found["wrong"] == 0, str(found))
+    wants(len(served) == len(set(served)) >= found["answered"], "a request was served twice")
+    return f"{found['answered']} answered, {found['unsure']} unsure, none twice"
 
 
 def forked(built: Built, folder: pathlib.Path) -> str:
@@ -733,6 +754,7 @@ CASES: list[Callable[[Built, pathlib.Path], str]] = [
     every_address,
     loss,
     killed,
+    stopped,
     forked,
     threads,
     narrow,
