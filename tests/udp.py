@@ -4,7 +4,7 @@
 `tests/udp.py [CASE ..]`; all cases where none is named. It builds lib/udp with tests/udp/*.c over lib/libdeltat.a and
 runs them as processes over 127.0.0.1, ::1 and `localhost`, under the driver's own wait, poll, epoll and GLib's loop;
 through a relay that loses 1 %; with an end that is killed and started again; in a forked child; over a path that is
-too narrow for a segment; and with strangers: ten thousand that come and go, one whose address changes, and forgers;
+too narrow for a segment; and with strangers: sixteen thousand that come and go, one whose address changes, and forgers;
 the state folder; and objects. Ends with 77 where there is no compiler or no archive; a case whose tool is missing
 says so.
 
@@ -457,7 +457,7 @@ def narrow(built: Built, folder: pathlib.Path) -> str:
 
 
 def learnt(built: Built, folder: pathlib.Path) -> str:
-    """Ten thousand clients that nobody listed come, ask and go: all are answered, none twice, in bounded memory."""
+    """Sixteen thousand clients that nobody listed come, ask and go: all are answered, none twice, in bounded memory."""
     log = folder / "learnt.log"
     server = End(built("ends", plain=True), "serve", "next", host=HOST, node=2, learns=6000, r=2000, log=log)
 
@@ -466,7 +466,7 @@ def learnt(built: Built, folder: pathlib.Path) -> str:
         return int(found[1])
 
     said, sizes = {"answered": 0, "unsure": 0, "wrong": 0}, []
-    for first in range(1000, 11000, 2000):
+    for first in range(1000, 17000, 2000):
         words = [built("crowd", plain=True), str(server.port), str(first), "2000", "50"]
         ran = subprocess.run(words, capture_output=True, text=True, timeout=2 * PATIENCE, check=True)
         for key, value in figures(ran.stdout).items():
@@ -475,14 +475,15 @@ def learnt(built: Built, folder: pathlib.Path) -> str:
         time.sleep(1.5)
     found = figures(server.stop())
     served = log.read_text().split()
-    wants(said == {"answered": 10000, "unsure": 0, "wrong": 0}, str(said))
+    wants(said == {"answered": 16000, "unsure": 0, "wrong": 0}, str(said))
     wants(
-        len(served) == len(set(served)) == 10000,
+        len(served) == len(set(served)) == 16000,
         f"{len(served)} requests were served, {len(set(served))} of them different",
     )
-    wants(found["learnt"] >= 10000 and found["forgotten"] >= 4000, str(found))
-    wants(sizes[-1] - sizes[2] < 6144, f"the service grew: {sizes} KiB")
-    return f"10,000 clients, {sizes[0]} to {sizes[-1]} KiB resident, {found['challenges']} challenges"
+    wants(found["learnt"] >= 16000 and found["forgotten"] >= 10000, str(found))
+    # (what is live at one time depends on how fast they come; the table of peers is full after the third round)
+    wants(max(sizes[6:]) < 1.25 * max(sizes[2:5]), f"the service grew: {sizes} KiB")
+    return f"16,000 clients, {sizes[0]} to {sizes[-1]} KiB resident, {found['challenges']} challenges"
 
 
 def rebinds(built: Built, folder: pathlib.Path) -> str:
