@@ -7,7 +7,7 @@
 - answers: requests of 100 octets, answered by 100 octets, for S seconds (2), with 1, 32, 1,000 or 4,000 under way: how many
   a second, and the microseconds of processor that one takes at both ends;
 - 64 KiB: messages of 65,524 octets, one after another: how many a second;
-- calls from Python by bindings/python/deltat_udp.py, one after another and 32 at once in asyncio, to a service in C.
+- calls from Python by deltat.driver, one after another and 32 at once in asyncio, to a service in C.
 
 `same` is UDP with the very datagrams that two nodes exchange, acknowledgements too. The best run counts, since others may
 load the machine; the load is printed. A peer that can't be built here is left out. Ends with 2 where the library isn't there."""
@@ -58,15 +58,15 @@ PEERS = {
 }
 PYTHON = """
 import asyncio, sys, time
-import deltat, deltat_udp
-from deltat_service import Kind
+import deltat
+from deltat import PortKind, Start, driver
 
 params = deltat.Params(mpl=82, r=800, a=5, rto=40, probe=80, seg=1400, cap=65536, rcap=65536, window=65536)
 port, seconds, many = int(sys.argv[1]), float(sys.argv[2]), int(sys.argv[3])
 
 
 def plain(udp, flow):
-    calls, count, begun = deltat_udp.Calls(udp), 0, time.monotonic()
+    calls, count, begun = driver.Calls(udp), 0, time.monotonic()
     while time.monotonic() - begun < seconds:
         calls.call(flow, bytes(104))
         count += 1
@@ -82,14 +82,14 @@ async def at_once(udp, flow):
             await calls.call(flow, bytes(104))
             count += 1
 
-    async with deltat_udp.AsyncCalls(udp) as calls:
+    async with driver.AsyncCalls(udp) as calls:
         await asyncio.gather(*(one(calls) for _ in range(many)))
     return count / (time.monotonic() - begun)
 
 
-with deltat_udp.Udp(deltat_udp.fresh_number(), params, 41, "127.0.0.1", first=True, service=True) as udp:
-    udp.peer(1, "127.0.0.1", port)
-    udp.open_port(10, Kind.CALLER)
+with driver.Udp(deltat.fresh_number(), params, 41, "127.0.0.1", start=Start.FIRST, service=True) as udp:
+    udp.set_peer(1, "127.0.0.1", port)
+    udp.open_port(10, PortKind.CALLER)
     flow = deltat.Flow(udp.node, 10, 1, 20)
     begun = time.process_time()
     rate = plain(udp, flow) if many == 1 else asyncio.run(at_once(udp, flow))

@@ -21,7 +21,7 @@ int main(int count, char **words) {
     const struct dt_udp_event *event = dt_udp_next_event(udp, made.status == DT_OK ? -1 : 0);
     bool answered = event->kind == DT_UDP_EVENT_ANSWERED;
     if (answered) printf("%.*s\n", (int)event->len, (const char *)event->octets);
-    else fprintf(stderr, "udp_client: %s\n", event->kind == DT_UDP_EVENT_UNSURE ? "nobody answered in time" : "the call wasn't made");
+    else fprintf(stderr, "udp_client: %s\n", event->kind == DT_UDP_EVENT_UNSURE ? "no answer in time" : "not called");
     dt_udp_drain(udp, 1000);
     dt_udp_close(udp);
     return answered ? 0 : 1;

@@ -9,7 +9,8 @@
 
 int main(int count, char **words) {
     struct dt_udp_options options = {
-        .size = sizeof options, .node = 2, .port = count > 1 ? words[1] : "4002", .state = count > 2 ? words[2] : "node-2",
+        .size = sizeof options, .node = 2, .port = count > 1 ? words[1] : "4002",
+        .state = count > 2 ? words[2] : "node-2",
         .role = DT_UDP_ROLE_SERVICE, .max_peers = 1000, .charge = 294,
         .params = &(struct dt_params){
             .size = sizeof(struct dt_params), .mpl = 482, .r = 450, .a = 5, .rto = 90, .probe = 180,

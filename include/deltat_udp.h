@@ -48,17 +48,19 @@ enum dt_udp_role { DT_UDP_ROLE_NODE = 1, DT_UDP_ROLE_SERVICE = 2 };
 enum dt_udp_start {
     DT_UDP_START_BY_STATE = 0, /* as the state folder says; without `state` this is refused */
     DT_UDP_START_FIRST = 1,    /* the number was never used, or not for dt_params_quiet_ms() ms */
-    DT_UDP_START_AGAIN = 2     /* it may have been: the node is silent for dt_params_quiet_ms() ms. With `state`: for all of
-                                  them, and the life is drawn, as after a machine was set back to a snapshot */
+    DT_UDP_START_AGAIN = 2     /* it may have been: the node is silent for dt_params_quiet_ms() ms. With
+                                  `state`: for all of them, and the life is drawn, as after a machine
+                                  was set back to a snapshot */
 };
 
 enum dt_udp_flag { /* bits of options.flags */
     DT_UDP_FLAG_WITHOUT_SEGMENTS = 1, /* don't use UDP_SEGMENT and UDP_GRO */
     DT_UDP_FLAG_WITHOUT_BATCHES = 2,  /* read and write one datagram a system call */
     DT_UDP_FLAG_WITHOUT_STAMPS = 4,   /* don't use the kernel's time stamps */
-    DT_UDP_FLAG_PARAMS_CHANGED = 16,  /* with `state`: the parameters were changed, with all nodes stopped. If the silence
-                                    by the old ones is longer, dt_udp_open waits for the rest */
-    DT_UDP_FLAG_ALL_PORTS = 8         /* receive at every port, not only at those of dt_udp_open_port */
+    DT_UDP_FLAG_ALL_PORTS = 8,        /* receive at every port, not only at those of dt_udp_open_port */
+    DT_UDP_FLAG_PARAMS_CHANGED = 16   /* with `state`: the parameters were changed, with all nodes
+                                         stopped. If the silence by the old ones is longer,
+                                         dt_udp_open waits for the rest */
 };
 
 /* Zero the struct, and set `size` and what you need. A zero means the value in brackets. */
@@ -207,7 +209,8 @@ struct dt_udp_put_result {
 };
 
 /* Opens ports `first_port` to `first_port` + `lanes` for objects, the same ports at both ends; of a node. Objects are
- * sent over `lanes` flows at once: 16 to 64 if the way is long. `max_octets`: of objects that arrive, until they are taken.
+ * sent over `lanes` flows at once: 16 to 64 if the way is long. `max_octets`: of objects that arrive, until they are
+ * taken.
  *   DT_OK
  *   DT_EXISTS       done before, or one of the ports is open
  *   DT_INVALID    of a service, or the ports end beyond 65,535; nothing changed

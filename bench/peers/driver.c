@@ -40,7 +40,8 @@ static struct end opened(uint32_t node, const char *host, const char *port) {
     struct dt_udp_error error;
     struct end it = {dt_udp_open(&options, &error), node, calls};
     if (it.udp == NULL) fail(error.text);
-    dt_udp_open_port(it.udp, node == SERVER ? PORT : CALLER, calls ? (node == SERVER ? DT_PORT_SERVICE : DT_PORT_CALLER) : 0);
+    bool serves = node == SERVER;
+    dt_udp_open_port(it.udp, serves ? PORT : CALLER, !calls ? 0 : serves ? DT_PORT_SERVICE : DT_PORT_CALLER);
     return it;
 }
 
@@ -55,7 +56,10 @@ static void serve(const char *address, int port) {
         if (event->kind != DT_UDP_EVENT_MESSAGE && event->kind != DT_UDP_EVENT_REQUEST) continue;
         memcpy(answer, event->octets + HEAD, NUMBER);
         served(event->octets + HEAD);
-        struct dt_flow back = {event->flow.target, event->flow.source, event->flow.target_port, event->flow.source_port};
+        struct dt_flow back = {.source = event->flow.target,
+                                   .target = event->flow.source,
+                                   .source_port = event->flow.target_port,
+                                   .target_port = event->flow.source_port};
         if (it.calls) dt_udp_reply(it.udp, &event->token, answer, ANSWER);
         else dt_udp_send(it.udp, &back, answer, ANSWER);
     }

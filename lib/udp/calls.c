@@ -85,7 +85,8 @@ struct dt_send_result dt_udp_send(dt_udp *u, const struct dt_flow *flow, const v
     return sent;
 }
 
-struct dt_call_result dt_udp_call(dt_udp *u, const struct dt_flow *flow, const void *octets, size_t len, uint32_t timeout_ms) {
+struct dt_call_result dt_udp_call(dt_udp *u, const struct dt_flow *flow, const void *octets, size_t len,
+                                  uint32_t timeout_ms) {
     uint64_t at = 0;
     dt_status status = begin(u, u->core.service, &at);
     if (status != DT_OK) return (struct dt_call_result){.status = status};

@@ -144,7 +144,8 @@ static void make_ready(struct target *to, struct lane *lane) {
     to->last_ready = lane;
 }
 
-struct dt_udp_put_result dt_udp_put_object(dt_udp *u, uint32_t target, const void *octets, uint64_t len, uint32_t timeout_ms) {
+struct dt_udp_put_result dt_udp_put_object(dt_udp *u, uint32_t target, const void *octets, uint64_t len,
+                                           uint32_t timeout_ms) {
     struct dt_udp_put_result result = {0};
     if (!dtu_is_usable(u)) return (struct dt_udp_put_result){.status = u->failed};
     const struct dt_params *p = u->options.params;
@@ -481,7 +482,8 @@ static void take_state(dt_udp *u, uint32_t node, const uint8_t *octets, size_t l
 /* Whether a message is one of objects; then it is handled. */
 bool dtu_objects_message(dt_udp *u, const struct dt_flow *flow, const uint8_t *octets, size_t len) {
     struct objects *o = &u->objects;
-    if (o->lanes == 0 || flow->target_port < o->first_port || flow->target_port - o->first_port > o->lanes) return false;
+    uint16_t port = flow->target_port;
+    if (o->lanes == 0 || port < o->first_port || port - o->first_port > o->lanes) return false;
     if (len < HEAD) return true;
     struct receiving like = {.number = dtu_get_number(octets + 4, 8),
                              .len = dtu_get_number(octets + 12, 8),

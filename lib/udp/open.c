@@ -117,7 +117,8 @@ static dt_status open_core(dt_udp *u, struct dt_udp_error *error) {
     if (u->options.start_as == DT_UDP_START_AGAIN) u->quiet_until = now + dtu_core_quiet_ms(u->options.params);
     if (status == DT_INVALID) return refuse_params(&it, error);
     if (status == DT_OK)
-        status = dtu_core_set_guard(&u->core, &u->ports, u->options.flags & DT_UDP_FLAG_ALL_PORTS, u->options.max_flows);
+        status = dtu_core_set_guard(&u->core, &u->ports, u->options.flags & DT_UDP_FLAG_ALL_PORTS,
+                                    u->options.max_flows);
     return status == DT_OK ? status : dtu_refuse(error, status, 0, "out of memory");
 }
 

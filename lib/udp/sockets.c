@@ -72,7 +72,8 @@ static bool set(int socket, int level, int name, int value) {
     return setsockopt(socket, level, name, &value, sizeof value) == 0;
 }
 
-/* Sets what the driver can do without: each that the system refuses is done another way, or is a limit of the system. */
+/* Sets options of the socket that the driver can do without: where the system refuses one, the work is done another
+ * way, or the limit is the system's. */
 static void set_wishes(dt_udp *u) {
     uint32_t flags = u->options.flags;
     (void)set(u->socket, SOL_SOCKET, SO_RCVBUF, KEPT_OCTETS);

@@ -272,10 +272,12 @@ dt_status dtu_core_set_port(struct core *core, uint16_t port, uint8_t kind);
 dt_status dtu_core_mark_readable(struct core *core, const struct dt_flow *flow);
 dt_status dtu_core_next_message(struct core *core, uint64_t now, const struct iovec *room, struct dt_message *out);
 dt_status dtu_core_next_event(struct core *core, uint8_t *room, size_t size, struct dt_event *out);
-struct dt_send_result dtu_core_send(struct core *core, uint64_t now, const struct dt_flow *flow, const struct iovec *octets);
-struct dt_call_result dtu_core_call(struct core *core, uint64_t now, const struct dt_flow *flow, const struct iovec *octets,
-                         uint32_t timeout_ms);
-struct dt_reply_result dtu_core_reply(struct core *core, uint64_t now, const struct dt_token *token, const struct iovec *octets);
+struct dt_send_result dtu_core_send(struct core *core, uint64_t now, const struct dt_flow *flow,
+                                    const struct iovec *octets);
+struct dt_call_result dtu_core_call(struct core *core, uint64_t now, const struct dt_flow *flow,
+                                    const struct iovec *octets, uint32_t timeout_ms);
+struct dt_reply_result dtu_core_reply(struct core *core, uint64_t now, const struct dt_token *token,
+                                      const struct iovec *octets);
 dt_status dtu_core_forget(struct core *core, uint64_t now, const struct dt_token *token);
 uint64_t dtu_core_outstanding(struct core *core);
 uint64_t dtu_core_accepted(struct core *core);
@@ -290,7 +292,8 @@ bool dtu_begin(dt_udp *u, uint64_t at);
 
 /* --- sockets.c */
 dt_status dtu_socket_open(dt_udp *u, struct dt_udp_error *error);
-dt_status dtu_socket_addresses(const dt_udp *u, const char *host, const char *port, struct peer *peer, struct dt_udp_error *error);
+dt_status dtu_socket_addresses(const dt_udp *u, const char *host, const char *port, struct peer *peer,
+                               struct dt_udp_error *error);
 bool dtu_same_address(const struct address *a, const struct address *b);
 dt_status dtu_refuse(struct dt_udp_error *error, dt_status status, int system_error, const char *format, ...)
     __attribute__((format(printf, 4, 5)));
@@ -367,6 +370,5 @@ void dtu_loop_turn(dt_udp *u, int wait_ms);
 dt_status dtu_events_open(dt_udp *u);
 void dtu_events_close(dt_udp *u);
 void dtu_events_collect(dt_udp *u, uint64_t at);
-bool dtu_events_next(dt_udp *u);
 
 #endif

@@ -6,9 +6,9 @@
  *   ends echo LOOP KEY=VALUE..        a node that sends each message back
  *   ends say LOOP KEY=VALUE..         sends `count` messages, one after another's echo, and drains; `echoed N wrong N`
  *
- * LOOP is next (dt_udp_next_event waits), poll, epoll, or glib (compiled with -DWITH_GLIB). Keys: host port node life again peer
- * peer_host peer_port learns state count octets many flags seg r timeout pause (ms after each call) log (a file to which the number of each request that
- * is served is appended). */
+ * LOOP is next (dt_udp_next_event waits), poll, epoll, or glib (compiled with -DWITH_GLIB). Keys: host port node life
+ * again peer peer_host peer_port learns state count octets many flags seg r timeout pause (ms after each call) log (a
+ * file to which the number of each request that is served is appended). */
 #include "deltat_udp.h"
 #include <errno.h>
 #include <inttypes.h>
@@ -167,7 +167,10 @@ static void ended(struct end *it, const struct dt_udp_event *event) {
 
 static void echoed(struct end *it, const struct dt_udp_event *event) {
     if (strcmp(it->mode, "echo") == 0) {
-        it->back = (struct dt_flow){event->flow.target, event->flow.source, event->flow.target_port, event->flow.source_port};
+        it->back = (struct dt_flow){.source = event->flow.target,
+                                   .target = event->flow.source,
+                                   .source_port = event->flow.target_port,
+                                   .target_port = event->flow.source_port};
         it->len = event->len;
         memcpy(it->echo, event->octets, event->len);
         echo(it);

@@ -66,7 +66,8 @@ static void in_child(dt_udp *client) {
 int main(int count, char **words) {
     if (count != 3) return 2;
     dt_udp *client = opened(1, words[1], 2, words[2]), *service = opened(2, words[2], 1, words[1]);
-    WANT(dt_udp_open_port(client, 10, DT_PORT_CALLER) == DT_OK && dt_udp_open_port(service, 20, DT_PORT_SERVICE) == DT_OK);
+    WANT(dt_udp_open_port(client, 10, DT_PORT_CALLER) == DT_OK);
+    WANT(dt_udp_open_port(service, 20, DT_PORT_SERVICE) == DT_OK);
     WANT(dt_udp_fd(client) >= 0);
     WANT(answered(client, service));
     pid_t child = fork();

@@ -106,7 +106,10 @@ static void take_events(struct world *w) {
         for (size_t i = 0; i < event->len && event->octets; i++) w->sum += event->octets[i];
         if (event->kind == DT_UDP_EVENT_REQUEST) dt_udp_reply(w->udp, &event->token, event->octets, event->len);
         if (event->kind == DT_UDP_EVENT_MESSAGE) {
-            struct dt_flow back = {event->flow.target, event->flow.source, event->flow.target_port, event->flow.source_port};
+            struct dt_flow back = {.source = event->flow.target,
+                                   .target = event->flow.source,
+                                   .source_port = event->flow.target_port,
+                                   .target_port = event->flow.source_port};
             dt_udp_send(w->udp, &back, event->octets, event->len);
         }
         WANT(event->kind != DT_UDP_EVENT_FAILED);

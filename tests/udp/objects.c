@@ -1,11 +1,11 @@
 /* Objects between two nodes over the driver.
  *
- *   objects take HOST PORT LANES MAX LOG              node 1 takes objects, and logs the number of each that is what was sent
- *   objects put HOST PORT LANES OCTETS COUNT          puts COUNT objects of OCTETS octets one after another, or, with COUNT
- *                                                     below 0, -COUNT at once; a line `put N MS` or `unsure N MS` for each
+ *   objects take HOST PORT LANES MAX LOG        node 1 takes objects, and logs the number of each that is what was sent
+ *   objects put HOST PORT LANES OCTETS COUNT    puts COUNT objects of OCTETS octets one after another, or, with COUNT
+ *                                               below 0, -COUNT at once; a line `put N MS` or `unsure N MS` for each
  *
- * Environment: DELAY_MS, the delay of the network each way (1); RTO_MS (40). Octet i of an object of number n is by n and i, so that the
- * taker knows them. */
+ * Environment: DELAY_MS, the delay of the network each way (1); RTO_MS (40). Octet i of an object of number n is by n
+ * and i, so that the taker knows them. */
 #include "deltat_udp.h"
 #include <inttypes.h>
 #include <signal.h>
@@ -104,7 +104,8 @@ static int put(char **words, uint32_t rto) {
     dt_udp *udp = opened(node, NULL, NULL, rto);
     struct dt_udp_error error;
     uint8_t *octets = malloc(len * (size_t)at_once + 1);
-    if (octets == NULL || dt_udp_set_peer(udp, 1, words[2], words[3], &error) != DT_OK) die("no such peer, or no memory");
+    if (octets == NULL || dt_udp_set_peer(udp, 1, words[2], words[3], &error) != DT_OK)
+        die("no such peer, or no memory");
     if (dt_udp_open_objects(udp, FIRST_PORT, (uint16_t)atoi(words[4]), 0) != DT_OK) die("no lanes");
     double begun = milliseconds();
     for (long made = 0, over = 0; over < all;) {

@@ -21,7 +21,8 @@ static void die(const char *why) {
 
 static dt_udp *opened(uint32_t node, uint8_t kind, uint16_t port) {
     struct dt_udp_options options = {
-        .size = sizeof options, .node = node, .host = "127.0.0.1", .role = DT_UDP_ROLE_SERVICE, .charge = 294, .life = 1,
+        .size = sizeof options, .node = node, .host = "127.0.0.1", .role = DT_UDP_ROLE_SERVICE, .charge = 294,
+        .life = 1,
         .params = &(struct dt_params){
             .size = sizeof(struct dt_params), .mpl = 482, .r = 3000, .a = 5, .rto = 90, .probe = 180,
             .seg = 1442, .cap = 65536, .rcap = 65536, .window = 65536, .run_limit = 2147483648u,
@@ -64,7 +65,8 @@ int main(int count, char **words) {
     ends[1].count = count > 1 ? (uint32_t)atoi(words[1]) : 100;
     snprintf(port, sizeof port, "%u", dt_udp_local_port(ends[0].udp));
     if (dt_udp_set_peer(ends[1].udp, 2, "127.0.0.1", port, &error) != DT_OK) die(error.text);
-    if (pthread_create(&serving, NULL, serve, &ends[0]) || pthread_create(&asking, NULL, ask, &ends[1])) die("no thread");
+    if (pthread_create(&serving, NULL, serve, &ends[0]) || pthread_create(&asking, NULL, ask, &ends[1]))
+        die("no thread");
     pthread_join(asking, NULL);
     atomic_store(&ends[0].over, true);
     pthread_join(serving, NULL);
