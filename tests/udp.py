@@ -226,6 +226,7 @@ def loops(built: Built, folder: pathlib.Path) -> str:
                     loop,
                     **hosting,
                     port=ports[0],
+                    r=3000,  # (a message is given up later: nobody sends it anew, and others load the machine)
                     node=2,
                     peer=1,
                     peer_host=address,
@@ -237,6 +238,7 @@ def loops(built: Built, folder: pathlib.Path) -> str:
                     loop,
                     **hosting,
                     port=ports[1],
+                    r=3000,
                     node=1,
                     peer=2,
                     peer_host=address,

@@ -200,7 +200,7 @@ def errors() -> str:
         raises(deltat.InvalidArgument, lambda: driver.Udp(2, deltat.Params(0, *[1] * 8), 1, start=Start.FIRST))
         with opened(3, start=None, state=folder) as udp:
             wants(udp.life == 1 and udp.silence == 0, "a folder that is new")
-            raises(driver.UdpError, lambda: opened(3, start=None, state=folder))
+            raises(deltat.StateError, lambda: opened(3, start=None, state=folder))
             raises(deltat.InvalidArgument, lambda: udp.set_peer(9, "no.such.name.invalid", 1))
             udp.open_port(CALLER, PortKind.CALLER)
             raises(deltat.InvalidArgument, lambda: udp.open_port(CALLER, PortKind.CALLER))
@@ -219,7 +219,7 @@ def errors() -> str:
                 os._exit(1)
             wants(os.waitpid(child, 0)[1] == 0, "a forked child is refused")
             wants(udp.poll() == [], "its parent continues")
-    return "UdpError, InvalidArgument, Declined, Gone, Stopped"
+    return "UdpError, StateError, InvalidArgument, Declined, Gone, Stopped"
 
 
 CASES = [calls, at_once, messages, errors]

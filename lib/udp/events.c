@@ -190,8 +190,8 @@ static bool next_failure(dt_udp *u) {
     return true;
 }
 
-/* Before events that wait are handed out: a program that is slow mustn't keep the node from its work. Whether the socket was
- * looked at. */
+/* Before events that wait are handed out: a program that is slow mustn't keep the node from its work. Returns whether
+ * the socket was looked at. */
 static bool keep_up(dt_udp *u, uint64_t now) {
     if (now - u->turned_at >= TURN_MS) {
         dtu_loop_turn(u, 0);

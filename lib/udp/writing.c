@@ -71,8 +71,8 @@ static void add(dt_udp *u, struct peer *peer, struct iovec *part) {
         .msg_name = &peer->at.name, .msg_namelen = peer->at.len, .msg_iov = part, .msg_iovlen = 1};
 }
 
-/* An acknowledgement often waits before longer frames to the same peer. Behind them it leaves with them by one call, and
- * arrives with them too; the order of datagrams means nothing. */
+/* An acknowledgement often waits before longer frames to the same peer. Behind them it leaves with them by one call,
+ * and arrives with them too; the order of datagrams means nothing. */
 static bool moves_behind(const dt_udp *u, unsigned i) {
     const struct msghdr *one = &u->out.heads[i].msg_hdr, *many = &u->out.heads[i + 1].msg_hdr;
     size_t each = many->msg_iov[0].iov_len, count = many->msg_iovlen;

@@ -39,7 +39,7 @@ from pathlib import Path
 
 from . import _c
 from ._c import Cause, PortKind, Start, Status
-from .errors import Declined, DeltatError, Full, InvalidArgument, OutOfMemory, Quiet, Stopped, Unsure
+from .errors import Declined, DeltatError, Full, InvalidArgument, OutOfMemory, Quiet, StateError, Stopped, Unsure
 from .service import Request, Token, _invalid, _ms, _raise_gone, _token
 from .values import Flow, Message, Params, flow_from_c, flow_to_c, in_range, octets_of, params_of
 
@@ -205,8 +205,8 @@ class Udp:
         `state`, a folder, or `start` says how the node starts. `max_peers`: how many peers may be learnt at one time.
         `flags`: enum dt_udp_flag.
 
-        Raises UdpError if the system refuses it or the state folder is in use; InvalidArgument; OutOfMemory; TypeError
-        without a start, or with two."""
+        Raises UdpError if the system refuses it; StateError if the state folder is in use; InvalidArgument;
+        OutOfMemory; TypeError without a start, or with two."""
         if (start is None) == (state is None):
             raise TypeError(f"node {node}: pass `state`, or `start`: Start.AGAIN unless the number is new")
         options = _c.sized(_Options)
@@ -230,6 +230,10 @@ class Udp:
             raise OutOfMemory(text)
         if error.status == Status.INVALID and not error.system_error:
             raise InvalidArgument(text)
+        if error.status == Status.EXISTS:
+            raise StateError(text)
+        if not error.system_error:
+            raise Stopped(text)
         raise UdpError(error.system_error, text)
 
     def __enter__(self) -> Udp:
@@ -251,7 +255,7 @@ class Udp:
         return self._handle
 
     def set_peer(self, node: int, host: str, port: int | str) -> None:
-        """Sets the address of a node. InvalidArgument: there is no such address; OutOfMemory or Stopped."""
+        """Sets the address of a node. Raises InvalidArgument if there is no such address; OutOfMemory or Stopped."""
         error = _Error()
         number = in_range(node, 32, "node")
         if _waits.dt_udp_set_peer(self._open(), number, host.encode(), str(port).encode(), error):
@@ -316,11 +320,11 @@ class Udp:
         """Waits until all that was sent is acknowledged or uncertain: whether that was within so many seconds."""
         status = _waits.dt_udp_drain(self._open(), _milliseconds(seconds))
         _check(status)
-        return status == Status.OK
+        return bool(status == Status.OK)
 
     def fileno(self) -> int:
         """A descriptor that is readable if something arrived or is due."""
-        found = _library.dt_udp_fd(self._open())
+        found: int = _library.dt_udp_fd(self._open())
         if found < 0:
             raise UdpError(ctypes.get_errno(), "the driver has no descriptor")
         return found
@@ -328,17 +332,17 @@ class Udp:
     @property
     def port(self) -> int:
         """The UDP port of the socket."""
-        return _library.dt_udp_local_port(self._open())
+        return int(_library.dt_udp_local_port(self._open()))
 
     @property
     def life(self) -> int:
         """The life of this opening."""
-        return _library.dt_udp_life(self._open())
+        return int(_library.dt_udp_life(self._open()))
 
     @property
     def silence(self) -> float:
         """For how many seconds the node is still silent after its start."""
-        return _library.dt_udp_silent_ms(self._open()) / 1000
+        return float(_library.dt_udp_silent_ms(self._open()) / 1000)
 
 
 # --- calls
@@ -386,8 +390,8 @@ class Calls:
         """Flows of requests whose replies were given up: each was delivered once or not at all. Take them out."""
 
     def call(self, flow: Flow, payload: bytes, timeout: float = 5.0) -> bytes:
-        """The answer to a call, within `timeout` seconds. Unsure; Declined, InvalidArgument or Stopped if it wasn't made;
-        OutOfMemory: take it as unsure."""
+        """Makes a call, and returns its answer, within `timeout` seconds. Raises Unsure; Declined, InvalidArgument or
+        Stopped if it wasn't made; OutOfMemory: take the call as unsure."""
         number = _made(self.udp, flow, payload, timeout)
         ends, step = self._ends, self._step
         while number not in ends:
@@ -546,12 +550,13 @@ class AsyncCalls:
             self._loop.call_soon(self._turn)
 
     async def call(self, flow: Flow, payload: bytes, timeout: float = 5.0) -> bytes:
-        """The answer to a call, within `timeout` seconds. Unsure; Declined, InvalidArgument or Stopped if it wasn't made.
-        If the wait is cancelled the call continues, and its end is dropped."""
+        """Makes a call, and returns its answer, within `timeout` seconds. Raises Unsure; Declined, InvalidArgument or
+        Stopped if it wasn't made. If the wait is cancelled the call continues, and its end is dropped."""
         if self._failure:
             raise self._failure
         number = _made(self.udp, flow, payload, timeout)
-        end = self._ends[number] = self._loop.create_future()
+        end: asyncio.Future[bytes] = self._loop.create_future()
+        self._ends[number] = end
         self._soon()
         return await end
 
