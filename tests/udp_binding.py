@@ -190,6 +190,28 @@ def messages() -> str:
     return "30 messages"
 
 
+def uncertain() -> str:
+    """A client that goes before its answer arrives: the service learns that its reply was given up, and of which flow."""
+    with opened(2, free_port(), max_peers=1) as udp:
+        udp.open_port(SERVICE, PortKind.SERVICE)
+        calls = driver.Calls(udp)
+        with client(udp.port) as (caller, flow):
+            made = driver.Calls(caller)
+            request = None
+            until = time.monotonic() + 20
+            driver._made(caller, flow, b"x", 5.0)
+            while request is None and time.monotonic() < until:
+                made._step(10)
+                request = next(calls.requests(0.01), None)
+            wants(request is not None, "the request arrives")
+        calls.reply(request.token, b"yes")
+        until = time.monotonic() + 20
+        while not calls.uncertain and time.monotonic() < until:
+            calls._step(100)
+        wants(calls.uncertain == {flow}, f"the flow of the request: {calls.uncertain}")
+    return "the flow of its request"
+
+
 def errors() -> str:
     """What can't be opened, and a start that is silent."""
     port = free_port()
@@ -222,7 +244,7 @@ def errors() -> str:
     return "UdpError, StateError, InvalidArgument, Declined, Gone, Stopped"
 
 
-CASES = [calls, at_once, messages, errors]
+CASES = [calls, at_once, messages, uncertain, errors]
 
 
 def main() -> int:
