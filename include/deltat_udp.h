@@ -1,0 +1,266 @@
+/* deltat_udp.h - a Delta-t node or service over one UDP socket, for Linux. Interface version 1.
+ *
+ * The library of deltat.h has no socket, no clock and no timer. This driver has them: it reads the
+ * socket, passes datagrams in, sends the datagrams that the node makes, and keeps the time. It
+ * never calls back and starts no thread. A program asks for the next event:
+ *
+ *     struct dt_udp_error error;
+ *     dt_udp *udp = dt_udp_open(&options, &error);
+ *     for (;;) {
+ *         const struct dt_udp_event *event = dt_udp_next_event(udp, -1);
+ *         if (event->kind == DT_UDP_EVENT_REQUEST)
+ *             dt_udp_reply(udp, &event->token, answer, len);
+ *         if (event->kind == DT_UDP_EVENT_FAILED)
+ *             break;
+ *     }
+ *     dt_udp_close(udp);
+ *
+ * In the loop of another library (epoll, GLib, libuv), watch dt_udp_fd for reading, and when it is
+ * readable call dt_udp_next_event(udp, 0) until it returns DT_UDP_EVENT_NONE.
+ *
+ * Which duties of deltat.h the driver keeps: memory of the handle, the clock (CLOCK_BOOTTIME), the
+ * delay on this machine (a datagram leaves within 20 ms after it was made, or is dropped), the wait
+ * in the socket (the kernel's stamps, and the time since the socket was last found empty), the
+ * calls of a forked child (refused), and restart and lives where `state` names a folder.
+ *
+ * What the caller still has to do
+ *   - options.charge covers the network, and 20 ms of each of the two machines (docs/premises.md).
+ *   - All nodes have equal parameters, and no two nodes have the same number.
+ *   - Without `state`: `start_as` and `life` are right (deltat.h).
+ *   - Call dt_udp_next_event or dt_udp_flush within 20 ms after dt_udp_send, dt_udp_call or dt_udp_reply.
+ *     A datagram that waits longer is dropped, and is sent again after rto.
+ *   - One thread at a time for each driver; none from a signal handler.
+ *
+ * docs/driver.md is the page for programmers. */
+#ifndef DELTAT_UDP_H
+#define DELTAT_UDP_H
+#include "deltat.h"
+#ifdef __cplusplus
+extern "C" {
+#endif
+
+#define DT_UDP_ABI_VERSION 1u
+
+typedef struct dt_udp dt_udp;
+
+enum dt_udp_role { DT_UDP_ROLE_NODE = 1, DT_UDP_ROLE_SERVICE = 2 };
+
+enum dt_udp_start {
+    DT_UDP_START_BY_STATE = 0, /* as the state folder says; without `state` this is refused */
+    DT_UDP_START_FIRST = 1,    /* the number was never used, or not for dt_params_quiet_ms() ms */
+    DT_UDP_START_AGAIN = 2     /* it may have been: the node is silent for dt_params_quiet_ms() ms. With
+                                  `state`: for all of them, and the life is drawn, as after a machine
+                                  was set back to a snapshot */
+};
+
+enum dt_udp_flag { /* bits of options.flags */
+    DT_UDP_FLAG_WITHOUT_SEGMENTS = 1, /* don't use UDP_SEGMENT and UDP_GRO */
+    DT_UDP_FLAG_WITHOUT_BATCHES = 2,  /* read and write one datagram a system call */
+    DT_UDP_FLAG_WITHOUT_STAMPS = 4,   /* don't use the kernel's time stamps */
+    DT_UDP_FLAG_ALL_PORTS = 8,        /* receive at every port, not only at those of dt_udp_open_port */
+    DT_UDP_FLAG_PARAMS_CHANGED = 16   /* with `state`: the parameters were changed, with all nodes
+                                         stopped. If the silence by the old ones is longer,
+                                         dt_udp_open waits for the rest */
+};
+
+/* Zero the struct, and set `size` and what you need. A zero means the value in brackets. */
+struct dt_udp_options {
+    uint32_t size;                  /* sizeof(struct dt_udp_options) */
+    uint32_t node;                  /* number of this node */
+    const char *host, *port;        /* address to bind [every address, IPv6 and IPv4; a free port] */
+    const struct dt_params *params; /* of the network: dt_params_for computes them; copied */
+    uint32_t charge;                /* of the link, in ms */
+    uint32_t pace;                  /* of the link, in ms [no limit] */
+    uint16_t link;                  /* number of the link, the same at all nodes [1] */
+    uint8_t role;                   /* enum dt_udp_role [DT_UDP_ROLE_NODE] */
+    uint8_t start_as;               /* enum dt_udp_start */
+    uint32_t life;                  /* of a service without `state` */
+    const char *state;              /* folder that keeps lives and starts [none] */
+    uint32_t max_calls;             /* of a service: calls under way [1,000] */
+    uint32_t max_requests;          /* of a service: requests without a reply [1,000] */
+    uint32_t max_requests_per_flow; /* of a service [1,000] */
+    uint32_t max_message;           /* of a node: octets of a message [65,536] */
+    uint32_t max_queued;            /* of a node: octets of messages that wait for dt_udp_next_event
+                                       before flows aren't read any more [1,048,576] */
+    uint32_t max_flows;             /* flows that may have a receiver at one time [4,096] */
+    uint32_t max_peers;             /* peers that may be learnt at one time [0: none is] */
+    uint32_t report_kinds;          /* of a node: reports that are events, as bits 1 << kind [none] */
+    uint32_t flags;                 /* enum dt_udp_flag */
+};
+
+/* Why dt_udp_open or dt_udp_set_peer failed. */
+struct dt_udp_error {
+    char text[240];    /* one line: what is wrong, and what to do */
+    int system_error;  /* an errno, or 0 */
+    dt_status status;    /* enum dt_status_code: DT_INVALID (an option, an address), DT_NO_MEMORY, DT_NOT_OPEN
+                          (the system refused a call), DT_EXISTS (the state folder is in use) */
+    uint8_t field;     /* place of a wrong parameter in dt_params: 1 is mpl; else 0 */
+};
+
+enum dt_udp_event_kind {
+    DT_UDP_EVENT_NONE = 0,      /* nothing happened in `wait_ms`, or a signal came */
+    DT_UDP_EVENT_MESSAGE = 1,   /* `flow`, `octets`, `gap` */
+    DT_UDP_EVENT_REQUEST = 2,   /* `token`, `octets` */
+    DT_UDP_EVENT_ANSWERED = 3,  /* `call`, `octets` */
+    DT_UDP_EVENT_UNSURE = 4,    /* `call`, `cause`: served once, not at all, or later */
+    DT_UDP_EVENT_REPORT = 5,    /* `report`: one that options.report_kinds asks for */
+    DT_UDP_EVENT_TOO_BIG = 6,   /* a datagram of `len` octets to `peer` doesn't fit the path: make
+                                   params.seg smaller at all nodes */
+    DT_UDP_EVENT_OBJECT = 7,    /* `object` of `peer`, whole: `octets` */
+    DT_UDP_EVENT_PUT_ENDED = 8, /* `object`, which was put, is over: `cause` is DT_OK (the peer has
+                                   it whole), DT_FULL (the peer has no room for it) or DT_NONE (the
+                                   time is over: the peer may have it) */
+    DT_UDP_EVENT_FAILED = 9,    /* the driver can't continue: `cause` is DT_NO_MEMORY, DT_STOPPED, or
+                                   DT_NOT_OPEN (a forked child, or a system call that failed:
+                                   `system_error`) */
+    DT_UDP_EVENT_REPLY_UNCERTAIN = 10 /* `flow`: as DT_EVENT_REPLY_UNCERTAIN of deltat.h */
+};
+
+/* Belongs to the driver, and stays as it is until the next call of dt_udp_next_event or dt_udp_close. */
+struct dt_udp_event {
+    const uint8_t *octets;
+    size_t len;
+    uint64_t call;
+    uint64_t object;
+    struct dt_token token;
+    struct dt_flow flow;
+    uint32_t peer;
+    int32_t system_error;
+    uint8_t kind;  /* enum dt_udp_event_kind */
+    uint8_t cause; /* enum dt_cause (UNSURE), enum dt_status_code (PUT_ENDED, FAILED) */
+    bool gap;      /* octets of the flow before this message may be missing */
+    const struct dt_report *report; /* of DT_UDP_EVENT_REPORT, else null */
+};
+
+/* Counters begin at 0 when the driver is opened. */
+struct dt_udp_counts {
+    uint64_t reads, writes;               /* system calls */
+    uint64_t datagrams_in, datagrams_out; /* all that were read; all that the system took */
+    uint64_t unknown;                     /* in: from an address that isn't a peer's, or no datagram of this network */
+    uint64_t not_sent;                    /* out: late, without an address, or refused by the system */
+    uint64_t too_big;                     /* out: longer than the path allows */
+    uint64_t challenges_out;              /* strangers that were asked to prove that they hear */
+    uint64_t challenges_withheld;         /* and that weren't: too many came */
+    uint64_t peers_learnt, peers_moved;   /* by such a proof; from one address to another */
+    uint64_t peers_forgotten;             /* learnt ones that were silent, for others */
+    uint64_t clock_steps;                 /* the wall clock was set: until then stamps don't count */
+    uint64_t messages_lost;               /* of a node: out of memory */
+    uint64_t messages_too_long;           /* of a node: longer than max_message */
+};
+
+/* Returns the interface version of the library. Compare it with DT_UDP_ABI_VERSION first. */
+uint32_t dt_udp_abi_version(void);
+
+/* Draws a node number that nobody had, but by chance: from 65,536 to 4,294,967,295. Start it with DT_UDP_START_FIRST;
+ * it needs no state folder. Returns 0 if the system has no random octets. */
+uint32_t dt_udp_fresh_number(void);
+
+/* Opens a node or a service and binds its socket. Returns null if that fails, and `error` says why;
+ * then nothing is left open.
+ * Cost: about 2 MB of buffers, of which only what is used becomes resident. */
+dt_udp *dt_udp_open(const struct dt_udp_options *options, struct dt_udp_error *error);
+
+/* Closes the socket and the node, and frees the memory. Sends nothing: call dt_udp_drain first if
+ * what was sent should still arrive. In a forked child it frees the child's copy only. */
+void dt_udp_close(dt_udp *udp);
+
+/* Sets the address of a node. A name is looked up by getaddrinfo now, which may block, and not again.
+ * If it has several addresses, datagrams go to one after another until one of them answers. If the
+ * node is behind relays, give the address of the first relay. Called again it replaces the address.
+ *   DT_OK
+ *   DT_INVALID    no such host or port, or none of the socket's family; `error` says which
+ *   DT_NO_MEMORY  nothing changed
+ *   DT_STOPPED, DT_NOT_OPEN  the driver failed, or this is a forked child */
+dt_status dt_udp_set_peer(dt_udp *udp, uint32_t node, const char *host, const char *port, struct dt_udp_error *error);
+
+/* Opens a port. Datagrams for other ports are dropped before the node sees them, unless
+ * DT_UDP_FLAG_ALL_PORTS is set. `kind` is DT_PORT_CALLER or DT_PORT_SERVICE for a service, and 0 for a node. A
+ * service's port keeps its kind.
+ *   DT_OK
+ *   DT_EXISTS       the port is open already
+ *   DT_INVALID    there is no such kind here
+ *   DT_NO_MEMORY  nothing changed
+ *   DT_STOPPED, DT_NOT_OPEN  the driver failed, or this is a forked child
+ * Cost: grows with the number of open ports. */
+dt_status dt_udp_open_port(dt_udp *udp, uint16_t port, uint8_t kind);
+
+/* Returns what happened next. Waits at most `wait_ms` ms for it (-1: without limit; 0: not at all),
+ * and meanwhile sends and receives what is due. Never returns null. */
+const struct dt_udp_event *dt_udp_next_event(dt_udp *udp, int wait_ms);
+
+/* Sends a whole message of 1 to params.cap octets; of a node. As dt_node_send.
+ *   DT_NOT_OPEN  also: the driver is a service's, failed, or is in a forked child */
+struct dt_send_result dt_udp_send(dt_udp *udp, const struct dt_flow *flow, const void *octets, size_t len);
+
+/* Makes a call, which ends within `timeout_ms` by an event; of a service. As dt_service_call.
+ *   DT_NOT_OPEN  also: the driver is a node's, failed, or is in a forked child */
+struct dt_call_result dt_udp_call(dt_udp *udp, const struct dt_flow *flow, const void *octets, size_t len,
+                           uint32_t timeout_ms);
+
+/* Replies to a request, once; of a service. `octets` may be those of the event. As dt_service_reply. */
+struct dt_reply_result dt_udp_reply(dt_udp *udp, const struct dt_token *token, const void *octets, size_t len);
+
+/* Ends a request without a reply, so that there is room for another; of a service. As dt_service_forget. */
+dt_status dt_udp_forget(dt_udp *udp, const struct dt_token *token);
+
+struct dt_udp_put_result {
+    uint64_t object; /* DT_OK: its number, which no other object of any opening has, but by chance */
+    dt_status status;
+};
+
+/* Opens ports `first_port` to `first_port` + `lanes` for objects, the same ports at both ends; of a node. Objects are
+ * sent over `lanes` flows at once: 16 to 64 if the way is long. `max_octets`: of objects that arrive, until they are
+ * taken.
+ *   DT_OK
+ *   DT_EXISTS       done before, or one of the ports is open
+ *   DT_INVALID    of a service, or the ports end beyond 65,535; nothing changed
+ *   DT_NO_MEMORY  some of the ports may be open
+ *   DT_STOPPED, DT_NOT_OPEN  the driver failed, or this is a forked child */
+dt_status dt_udp_open_objects(dt_udp *udp, uint16_t first_port, uint16_t lanes, uint64_t max_octets);
+
+/* Sends an object of at most 2^32 - 1 octets to a node, whole, and at most once. The octets stay yours: keep them
+ * unchanged until DT_UDP_EVENT_PUT_ENDED, which arrives within `timeout_ms` and 2 mpl + r + a.
+ *   DT_OK
+ *   DT_INVALID    dt_udp_open_objects wasn't called, the target is this node, `len` is too great, or `timeout_ms` is 0
+ *   DT_NO_MEMORY  nothing changed
+ *   DT_STOPPED, DT_NOT_OPEN  the driver failed, or this is a forked child
+ * Cost: objects to one node are sent one after another; a target takes about 900 octets for each lane. */
+struct dt_udp_put_result dt_udp_put_object(dt_udp *udp, uint32_t target, const void *octets, uint64_t len,
+                                    uint32_t timeout_ms);
+
+/* Puts what is due and what was sent on the wire now. dt_udp_next_event does it too. */
+void dt_udp_flush(dt_udp *udp);
+
+/* Sends and receives until every octet that was sent is acknowledged or uncertain, for at most
+ * `wait_ms` ms (-1: without limit). Events wait for dt_udp_next_event meanwhile.
+ *   DT_OK       nothing is outstanding
+ *   DT_NONE    the time is over first, or a signal came
+ *   DT_NO_MEMORY, DT_STOPPED, DT_NOT_OPEN  the driver failed, or this is a forked child */
+dt_status dt_udp_drain(dt_udp *udp, int wait_ms);
+
+/* Returns a descriptor that is readable if a datagram arrived or something is due. It belongs to the
+ * driver: only watch it. Returns -1 if the system refuses one, and errno says why. */
+int dt_udp_fd(dt_udp *udp);
+
+/* Returns the UDP port that the socket is bound to; 0 if the system doesn't say. */
+uint16_t dt_udp_local_port(dt_udp *udp);
+
+/* Returns for how many ms the node is still silent after its start: until then sends and calls are DT_QUIET. */
+uint64_t dt_udp_silent_ms(dt_udp *udp);
+
+/* Returns the life of this opening: that of the state folder, or of the options. */
+uint32_t dt_udp_life(dt_udp *udp);
+
+/* Returns the counters, which belong to the driver. */
+const struct dt_udp_counts *dt_udp_get_counts(dt_udp *udp);
+
+/* Returns the handle of the node or of the service, for calls of deltat.h that the driver doesn't
+ * have (counters, dt_node_count_flow, dt_service_stop ..); null if the driver has the other. Never call
+ * what takes `now`, and never take datagrams, reports, messages or events by it. */
+dt_node *dt_udp_node(dt_udp *udp);
+dt_service *dt_udp_service(dt_udp *udp);
+
+#ifdef __cplusplus
+}
+#endif
+#endif

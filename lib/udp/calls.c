@@ -1,0 +1,121 @@
+/* What a program asks of the node. */
+#include "udp.h"
+#include <stdlib.h>
+#include <string.h>
+
+/* --- peers and ports */
+
+dt_status dt_udp_set_peer(dt_udp *u, uint32_t node, const char *host, const char *port, struct dt_udp_error *error) {
+    if (error) memset(error, 0, sizeof *error);
+    if (!dtu_is_usable(u)) return dtu_refuse(error, u->failed, 0, "the driver failed, or this is a forked child");
+    if (host == NULL || port == NULL) return dtu_refuse(error, DT_INVALID, 0, "node %u has no host or no port", node);
+    struct peer found = {.choices = 0};
+    dt_status status = dtu_socket_addresses(u, host, port, &found, error);
+    if (status != DT_OK) return status;
+    status = dtu_core_add_route(&u->core, node);
+    struct peer *peer = status == DT_OK ? dtu_peers_find(&u->peers, node) : NULL;
+    if (status == DT_OK && peer == NULL) peer = dtu_peers_add(&u->peers, node);
+    if (peer == NULL)
+        return dtu_refuse(error, status == DT_OK ? DT_NO_MEMORY : status, 0, "node %u isn't added: out of memory",
+                          node);
+    dtu_strangers_configured(u, peer);
+    memcpy(peer->others, found.others, sizeof peer->others);
+    peer->choices = found.choices;
+    peer->choice = 0;
+    peer->at = found.at;
+    peer->own.family = 0;
+    peer->heard = peer->answered = false;
+    peer->configured = true;
+    return DT_OK;
+}
+
+static bool has_room(struct ports *ports) {
+    if (ports->count < ports->size) return true;
+    size_t size = ports->size ? 2 * ports->size : 16;
+    uint16_t *more = realloc(ports->list, size * sizeof *more);
+    if (more == NULL) return false;
+    ports->list = more;
+    ports->size = size;
+    return true;
+}
+
+dt_status dt_udp_open_port(dt_udp *u, uint16_t port, uint8_t kind) {
+    struct ports *ports = &u->ports;
+    bool all = u->options.flags & DT_UDP_FLAG_ALL_PORTS;
+    if (!dtu_is_usable(u)) return u->failed;
+    if (ports->open[port / 8] >> port % 8 & 1) return DT_EXISTS;
+    if (!has_room(ports)) return DT_NO_MEMORY;
+    dt_status status = dtu_core_set_port(&u->core, port, kind);
+    if (status != DT_OK) return status;
+    ports->list[ports->count++] = port;
+    status = dtu_core_set_guard(&u->core, ports, all, u->options.max_flows);
+    if (status != DT_OK) {
+        ports->count--;
+        return status;
+    }
+    ports->open[port / 8] |= (uint8_t)(1u << port % 8);
+    return DT_OK;
+}
+
+/* --- messages and calls: each is an input of the node at this reading, and what it makes has to leave soon. (What is
+ * handed in and isn't acknowledged yet would be kept within a window of the peer here.) */
+
+/* Whether the call can be made, with `*at` as its reading: DT_OK, or the status that it gets. */
+static dt_status begin(dt_udp *u, const void *handle, uint64_t *at) {
+    if (!dtu_is_usable(u)) return u->failed;
+    if (handle == NULL) return DT_NOT_OPEN;
+    *at = dtu_clock_ms();
+    return dtu_begin(u, *at) ? DT_OK : u->failed;
+}
+
+/* (The library wants a pointer even if there are no octets. It doesn't write through it.) */
+static struct iovec payload_of(const void *octets, size_t len) {
+    static const uint8_t NONE;
+    return (struct iovec){(void *)(uintptr_t)(octets ? octets : &NONE), octets ? len : 0};
+}
+
+struct dt_send_result dt_udp_send(dt_udp *u, const struct dt_flow *flow, const void *octets, size_t len) {
+    uint64_t at = 0;
+    dt_status status = begin(u, u->core.node, &at);
+    if (status != DT_OK) return (struct dt_send_result){.status = status};
+    struct iovec payload = payload_of(octets, len);
+    struct dt_send_result sent = dtu_core_send(&u->core, at, flow, &payload);
+    dtu_judge(u);
+    dtu_events_collect(u, at);
+    return sent;
+}
+
+struct dt_call_result dt_udp_call(dt_udp *u, const struct dt_flow *flow, const void *octets, size_t len,
+                                  uint32_t timeout_ms) {
+    uint64_t at = 0;
+    dt_status status = begin(u, u->core.service, &at);
+    if (status != DT_OK) return (struct dt_call_result){.status = status};
+    struct iovec payload = payload_of(octets, len);
+    struct dt_call_result made = dtu_core_call(&u->core, at, flow, &payload, timeout_ms);
+    if (made.status == DT_OK) u->open_calls++;
+    dtu_judge(u);
+    return made;
+}
+
+struct dt_reply_result dt_udp_reply(dt_udp *u, const struct dt_token *token, const void *octets, size_t len) {
+    uint64_t at = 0;
+    dt_status status = begin(u, u->core.service, &at);
+    if (status != DT_OK) return (struct dt_reply_result){.status = status};
+    struct iovec payload = payload_of(octets, len);
+    struct dt_reply_result replied = dtu_core_reply(&u->core, at, token, &payload);
+    dtu_judge(u);
+    return replied;
+}
+
+dt_status dt_udp_forget(dt_udp *u, const struct dt_token *token) {
+    uint64_t at = 0;
+    dt_status status = begin(u, u->core.service, &at);
+    if (status != DT_OK) return status;
+    status = dtu_core_forget(&u->core, at, token);
+    dtu_judge(u);
+    return status;
+}
+
+void dt_udp_flush(dt_udp *u) {
+    if (dtu_is_usable(u)) dtu_write_all(u);
+}

@@ -1,0 +1,374 @@
+/* What the files of the driver share. Each file has one concern:
+ *
+ *   core.c      all calls of deltat.h: a node or a service behind one set of functions
+ *   open.c      options, opening, closing
+ *   sockets.c   the socket and its options, addresses of names
+ *   peers.c     the table of peers
+ *   strangers.c peers that are learnt
+ *   state.c     the state folder
+ *   reading.c   datagrams from the socket to the node
+ *   writing.c   datagrams from the node to the socket
+ *   clocks.c    readings of the clocks, and how long a datagram waited in the socket
+ *   loop.c      the wait, the descriptor, the timer
+ *   events.c    what dt_udp_next_event returns
+ *   calls.c     what a program asks of the node
+ *   objects.c   objects, in chunks over several flows
+ *   octets.c    numbers in octets
+ */
+#ifndef DELTAT_UDP_INTERNAL_H
+#define DELTAT_UDP_INTERNAL_H
+#include "deltat_udp.h"
+#include <netinet/in.h>
+#include <sys/socket.h>
+#include <sys/types.h>
+
+enum {
+    LATE_MS = 20,        /* a datagram that was made longer ago isn't sent: its link's charge has this */
+    IN_BATCH = 32,       /* datagrams that one system call reads, each of up to 64 segments */
+    OUT_BATCH = 64,      /* datagrams that are sent at once */
+    MAX_SEGMENTS = 64,   /* datagrams that one UDP_SEGMENT call sends: the kernel's limit */
+    MAX_UDP = 65535,     /* octets that one system call may send or read of one datagram */
+    MAX_ADDRESSES = 4,   /* of one name that are tried */
+    HEADER = 16,         /* octets of a Deltagram's header (docs/formats.md) */
+    TRAILER = 64,        /* room behind each frame for a trailer; none is written yet */
+    CONTROL_ROOM = 128   /* octets of control messages of one datagram */
+};
+
+/* A reading of both clocks, one after the other, in ns. */
+struct reading {
+    int64_t boot; /* CLOCK_BOOTTIME: the time of the node */
+    int64_t wall; /* CLOCK_REALTIME: the time of the kernel's stamps */
+};
+
+struct address {
+    union {
+        struct sockaddr any;
+        struct sockaddr_in v4;
+        struct sockaddr_in6 v6;
+    } name;
+    socklen_t len; /* 0: no address */
+};
+
+/* Our own address at which a peer's datagrams arrive: replies leave from it. */
+struct own_address {
+    sa_family_t family; /* 0: not known, the system chooses */
+    union {
+        struct in_addr v4;
+        struct in6_addr v6;
+    } name;
+};
+
+struct peer {
+    struct peer *next; /* in its bucket */
+    struct peer *next_too_big, *next_prover;
+    struct peer *older, *newer; /* of learnt peers: in the order in which they were heard */
+    struct address at; /* the one that is in use */
+    struct own_address own;
+    uint64_t heard_at;  /* when a datagram of it was last passed in */
+    uint64_t sent_at;   /* when one was last sent to it */
+    uint64_t proved_at; /* when it last asked us to prove our address */
+    uint64_t key;       /* of a learnt peer: of its opening */
+    uint32_t node, too_big; /* too_big: octets of a datagram that didn't fit the path, to be reported, or 0 */
+    bool configured;        /* by dt_udp_set_peer */
+    bool heard;             /* from `at`: no other address of its name is tried */
+    bool answered;          /* a datagram of it was passed in */
+    bool is_prover;         /* it asked us for a proof once */
+    uint8_t choice, choices;
+    struct address others[MAX_ADDRESSES]; /* the addresses of its name, `choices` in number */
+};
+
+struct peers {
+    struct peer **buckets;
+    struct peer *too_big; /* those with something to report */
+    size_t count, size;   /* size: a power of 2 */
+    uint64_t key;         /* odd and random, so that nobody chooses numbers of one bucket */
+};
+
+/* A stranger that has shown that it hears at an address. */
+struct proof {
+    struct address from; /* len 0: none */
+    uint32_t node;
+    uint64_t key, at;
+};
+
+enum { PROOFS = 1024 };
+
+struct strangers {
+    struct peer oldest;    /* the head of the ring of learnt peers: `newer` is the one that was silent for longest */
+    struct proof *proofs;  /* PROOFS of them, each at a place that its address decides; null: none is learnt */
+    uint64_t secret[2];    /* of the cookies */
+    uint64_t key;          /* of this opening */
+    uint64_t burst_at;
+    struct peer *provers;  /* configured peers that asked us for a proof */
+    uint64_t greeted_at;
+    struct address asked;  /* who was asked last, and when */
+    uint64_t asked_at;
+    uint32_t burst, count; /* challenges since burst_at; peers that are learnt now */
+    uint32_t numbers;      /* that were ever learnt */
+};
+
+/* The last frame to a peer that hasn't answered yet. */
+struct held {
+    uint32_t to;
+    size_t len;
+    uint64_t made_at;
+    uint8_t octets[DT_MAX_DATAGRAM];
+};
+
+/* A datagram that arrived. */
+struct arrival {
+    const uint8_t *octets;
+    size_t len;
+    const struct address *from;
+    struct own_address own;
+    uint32_t maker; /* the node that its header names */
+    uint32_t waited_ms;
+    uint64_t at;
+};
+
+/* One end of the protocol: exactly one of `node` and `service` is open. */
+struct core {
+    dt_node *node;
+    dt_service *service;
+    uint16_t link;
+    uint8_t stopped; /* the status that stopped it, or 0 */
+};
+
+/* A whole message that waits for dt_udp_next_event. */
+struct message {
+    struct message *next;
+    struct dt_flow flow;
+    size_t len;
+    bool gap;
+    uint8_t octets[];
+};
+
+struct queue {
+    struct message *first, *last;
+    size_t octets;
+};
+
+struct reports {
+    struct dt_report *all;
+    size_t first, count, size;
+};
+
+struct incoming {
+    struct mmsghdr heads[IN_BATCH];
+    struct iovec parts[IN_BATCH];
+    struct address from[IN_BATCH];
+    _Alignas(struct cmsghdr) char controls[IN_BATCH][CONTROL_ROOM];
+    uint8_t *rooms;
+    size_t room;    /* octets of each */
+    unsigned used;  /* how many heads have to be set up again */
+    bool full;      /* the last look filled the batch: there may be more */
+};
+
+struct outgoing {
+    struct mmsghdr heads[OUT_BATCH];
+    struct iovec parts[OUT_BATCH];
+    struct peer *peers[OUT_BATCH]; /* of each head */
+    _Alignas(struct cmsghdr) char controls[OUT_BATCH][CONTROL_ROOM];
+    uint8_t *rooms; /* OUT_BATCH of DT_MAX_DATAGRAM + TRAILER octets */
+    unsigned count; /* heads */
+    uint64_t made_at; /* the reading by which the oldest frame that waits was made; DT_NEVER: none waits */
+};
+
+struct ports {
+    uint8_t open[65536 / 8]; /* a bit for each */
+    uint16_t *list;
+    size_t count, size;
+};
+
+enum { PAST_OBJECTS = 1024, MAX_PARTS = 1024 };
+
+struct receiving;
+struct target;
+
+struct past { uint64_t number; uint32_t node; bool some; };
+
+struct objects {
+    struct target *targets;
+    struct receiving *parts, *whole, *last_whole, *lent;
+    uint64_t number;                 /* of the object that was put last */
+    uint64_t window;                 /* octets of chunks under way to one node, at most */
+    uint64_t not_sent, adapted_at;   /* the count when the window was last changed, and when that was */
+    uint64_t refused_at;             /* when a sender was last refused */
+    uint64_t next_deadline;          /* the first of those that are sent, or sooner */
+    uint64_t max_octets, held_octets; /* of objects that are received and weren't taken */
+    uint32_t sending, ended;         /* objects whose end wasn't taken; of these: that have one */
+    uint32_t part_count, past_at;
+    uint16_t first_port, lanes;      /* lanes 0: none are received or sent */
+    struct past past[PAST_OBJECTS];  /* the objects that were whole last: chunks of them may still arrive */
+    uint8_t room[65536];             /* a message that is sent */
+};
+
+/* The state folder; its descriptors are -1 without one. */
+struct state {
+    int folder, lock, last;
+    bool again;      /* the node may have had an earlier life */
+    bool has_state;  /* the file `state` was whole */
+    bool ends_known; /* `ended`: when the last life ended, in ms */
+    bool has_until;  /* `until`: what the file `last` promises */
+    uint64_t ended, until, noted, quiet_until, ahead;
+    uint32_t life;
+};
+
+struct dt_udp {
+    struct dt_udp_options options; /* its pointers are null after the opening, but for params */
+    struct dt_params params;       /* what options.params points to */
+    struct dt_report report;       /* what the last event points to */
+    struct dt_udp_counts counts;
+    struct dt_udp_event event;
+    struct core core;
+    struct peers peers;
+    struct ports ports;
+    struct strangers strangers;
+    struct held held;
+    struct state state;
+    struct objects objects;
+    struct queue queue;
+    struct reports reports;
+    struct message *lent;  /* what the last event points to */
+    struct message *spare; /* with room for the longest message: the next one is taken into it */
+    struct incoming in;
+    struct outgoing out;
+    uint8_t *event_room; /* what a service's last event points to */
+    int socket, epoll, timer, family;
+    int read_timeout_ms;  /* SO_RCVTIMEO as it was set last; 0: it isn't */
+    bool every_address;   /* bound to all addresses of the machine */
+    bool segments, stamps;
+    struct reading opened; /* when the socket was opened */
+    struct reading empty;  /* read before the last look that found the socket empty */
+    int64_t ahead_ns;      /* how much the wall clock was ahead of the other at the last reading */
+    bool stepped;          /* the wall clock was set since `empty` */
+    bool interrupted;      /* a signal ended the last wait */
+    bool unread;           /* messages stay in the node, since too many octets wait for dt_udp_next_event */
+    uint64_t quiet_until;  /* the node is silent until then */
+    uint64_t open_calls;   /* whose end wasn't handed out */
+    uint64_t heard_at;     /* when a datagram was last passed in */
+    uint64_t input_at;     /* the greatest reading of an input */
+    uint64_t ticked_at;    /* when the node last did what is due */
+    uint64_t turned_at;    /* when the socket was last looked at */
+    uint64_t armed_at;     /* what the timer is set to; DT_NEVER: it isn't */
+    uint8_t *fork_mark;    /* a page that a forked child finds zeroed; null: compare `owner` */
+    pid_t owner;
+    bool is_copy;          /* in a forked child */
+    uint8_t failed;        /* enum dt_status_code, or 0 */
+    int system_error;
+};
+
+/* --- core.c */
+struct dt_open_result dtu_core_open(struct core *core, const struct dt_udp_options *options, uint64_t now);
+void dtu_core_close(struct core *core);
+dt_status dtu_core_tick(struct core *core, uint64_t now);
+dt_status dtu_core_receive(struct core *core, uint64_t now, const uint8_t *octets, size_t len, uint32_t waited_ms);
+bool dtu_core_next_datagram(struct core *core, uint8_t *room, size_t *len, uint32_t *to);
+bool dtu_core_next_report(struct core *core, struct dt_report *report);
+uint64_t dtu_core_wake(struct core *core);
+dt_status dtu_core_add_route(struct core *core, uint32_t to);
+dt_status dtu_core_set_guard(struct core *core, const struct ports *ports, bool all, uint32_t max_flows);
+dt_status dtu_core_set_port(struct core *core, uint16_t port, uint8_t kind);
+dt_status dtu_core_mark_readable(struct core *core, const struct dt_flow *flow);
+dt_status dtu_core_next_message(struct core *core, uint64_t now, const struct iovec *room, struct dt_message *out);
+dt_status dtu_core_next_event(struct core *core, uint8_t *room, size_t size, struct dt_event *out);
+struct dt_send_result dtu_core_send(struct core *core, uint64_t now, const struct dt_flow *flow,
+                                    const struct iovec *octets);
+struct dt_call_result dtu_core_call(struct core *core, uint64_t now, const struct dt_flow *flow,
+                                    const struct iovec *octets, uint32_t timeout_ms);
+struct dt_reply_result dtu_core_reply(struct core *core, uint64_t now, const struct dt_token *token,
+                                      const struct iovec *octets);
+dt_status dtu_core_forget(struct core *core, uint64_t now, const struct dt_token *token);
+uint64_t dtu_core_outstanding(struct core *core);
+uint64_t dtu_core_accepted(struct core *core);
+bool dtu_core_is_known(void);
+uint64_t dtu_core_quiet_ms(const struct dt_params *params);
+
+/* --- open.c */
+bool dtu_is_usable(dt_udp *u);
+void dtu_fail(dt_udp *u, dt_status status, int system_error);
+void dtu_judge(dt_udp *u);
+bool dtu_begin(dt_udp *u, uint64_t at);
+
+/* --- sockets.c */
+dt_status dtu_socket_open(dt_udp *u, struct dt_udp_error *error);
+dt_status dtu_socket_addresses(const dt_udp *u, const char *host, const char *port, struct peer *peer,
+                               struct dt_udp_error *error);
+bool dtu_same_address(const struct address *a, const struct address *b);
+dt_status dtu_refuse(struct dt_udp_error *error, dt_status status, int system_error, const char *format, ...)
+    __attribute__((format(printf, 4, 5)));
+
+/* --- peers.c */
+dt_status dtu_peers_open(struct peers *peers);
+void dtu_peers_close(struct peers *peers);
+struct peer *dtu_peers_find(const struct peers *peers, uint32_t node);
+struct peer *dtu_peers_add(struct peers *peers, uint32_t node);
+void dtu_peers_note_too_big(struct peers *peers, struct peer *peer, uint32_t len);
+struct peer *dtu_peers_next_too_big(struct peers *peers);
+
+void dtu_peers_remove(struct peers *peers, struct peer *peer);
+
+/* --- strangers.c */
+dt_status dtu_strangers_open(dt_udp *u);
+void dtu_strangers_close(dt_udp *u);
+void dtu_strangers_heard(dt_udp *u, struct peer *peer);
+void dtu_strangers_configured(dt_udp *u, struct peer *peer);
+uint64_t dtu_strangers_wake(const dt_udp *u);
+void dtu_strangers_greet(dt_udp *u, uint64_t at);
+bool dtu_is_control(dt_udp *u, struct arrival *arrival);
+void dtu_stranger(dt_udp *u, const struct arrival *arrival);
+
+/* --- state.c */
+dt_status dtu_state_open(dt_udp *u, uint64_t *now, struct dt_udp_error *error);
+bool dtu_state_note(dt_udp *u, uint64_t at);
+void dtu_state_close(dt_udp *u);
+
+/* --- objects.c */
+void dtu_objects_close(dt_udp *u);
+void dtu_objects_free(struct receiving *object);
+bool dtu_objects_send(dt_udp *u);
+void dtu_objects_release(dt_udp *u);
+uint64_t dtu_objects_wake(const dt_udp *u);
+void dtu_objects_report(dt_udp *u, const struct dt_report *report);
+bool dtu_objects_message(dt_udp *u, const struct dt_flow *flow, const uint8_t *octets, size_t len);
+bool dtu_objects_event(dt_udp *u);
+
+/* --- octets.c */
+void dtu_put_number(uint8_t *at, uint64_t value, int octets);
+uint64_t dtu_get_number(const uint8_t *at, int octets);
+
+/* --- clocks.c */
+uint64_t dtu_clock_ms(void);
+uint64_t dtu_clock_ms_of(const struct reading *reading);
+bool dtu_clock_works(void);
+struct reading dtu_clock_reading(void);
+void dtu_clock_was_empty(dt_udp *u, const struct reading *before);
+void dtu_clock_is_doubtful(dt_udp *u);
+void dtu_clock_after_look(dt_udp *u, const struct reading *after);
+uint32_t dtu_clock_waited(const dt_udp *u, const struct reading *after, int64_t stamp_ns);
+
+/* --- reading.c */
+dt_status dtu_reading_open(dt_udp *u);
+void dtu_reading_close(dt_udp *u);
+void dtu_read_socket(dt_udp *u, int wait_ms);
+bool dtu_is_from(struct peer *peer, const struct address *from);
+bool dtu_pass_in(dt_udp *u, const struct arrival *arrival);
+
+/* --- writing.c */
+dt_status dtu_writing_open(dt_udp *u);
+void dtu_writing_close(dt_udp *u);
+void dtu_write_all(dt_udp *u);
+void dtu_write_control(dt_udp *u, const struct arrival *to, const uint8_t *octets, size_t len);
+void dtu_write_held(dt_udp *u, const struct peer *peer);
+
+/* --- loop.c */
+void dtu_loop_close(dt_udp *u);
+void dtu_loop_arm(dt_udp *u);
+void dtu_loop_turn(dt_udp *u, int wait_ms);
+
+/* --- events.c */
+dt_status dtu_events_open(dt_udp *u);
+void dtu_events_close(dt_udp *u);
+void dtu_events_collect(dt_udp *u, uint64_t at);
+
+#endif

@@ -1,0 +1,268 @@
+#!/usr/bin/env python3
+"""The Python module over the driver, deltat.driver: calls, messages, asyncio, and each error as an
+exception.
+
+`tests/udp_binding.py [CASE ..]`; all cases where none is named. Both ends are processes or drivers of this one. Ends
+with 77 where lib/libdeltat.so.2 or lib/libdeltat-udp.so.1 isn't there (make -C lib).
+
+In tests/all: no words, 180 s."""
+import argparse
+import asyncio
+import multiprocessing
+import os
+import sys
+import tempfile
+import time
+from collections.abc import Callable, Iterator
+from contextlib import contextmanager
+
+from lib import HOST, TOP, free_port, skip
+
+if not all((TOP / "lib" / it).exists() for it in ("libdeltat.so.2", "libdeltat-udp.so.1")):
+    skip("there is no lib/libdeltat.so.2 or lib/libdeltat-udp.so.1: make -C lib")
+sys.path.insert(0, str(TOP / "bindings" / "python"))
+
+import deltat  # noqa: E402
+from deltat import Cause, Declined, Gone, PortKind, Request, Start, Status, Token, Unsure, driver  # noqa: E402
+
+PARAMS = deltat.Params(mpl=482, r=3000, a=5, rto=90, probe=180, seg=1442, cap=65536, rcap=65536, window=65536)
+CALLER, SERVICE, OTHER = 10, 20, 21
+
+
+def wants(truth: bool, what: str) -> None:
+    if not truth:
+        raise AssertionError(what)
+
+
+def raises(kind: type[Exception], act: Callable[[], object]) -> Exception:
+    try:
+        act()
+    except kind as why:
+        return why
+    raise AssertionError(f"{kind.__name__} isn't raised")
+
+
+def opened(node: int, port: int | None = None, **more: object) -> driver.Udp:
+    more = {"start": Start.FIRST, "service": True, **more}
+    return driver.Udp(node, PARAMS, 294, HOST, port, **more)
+
+
+def serve(port: int) -> None:
+    """Node 2: port 20 answers with the octets reversed, and port 21 forgets requests of one octet."""
+    with opened(2, port, max_peers=100) as udp:
+        for it in (SERVICE, OTHER):
+            udp.open_port(it, PortKind.SERVICE)
+        calls = driver.Calls(udp)
+
+        @calls.on(SERVICE)
+        def octets_reversed(request: Request) -> bytes:
+            return request.payload[::-1]
+
+        @calls.on(OTHER)
+        def picky(request: Request) -> bytes | None:
+            return None if len(request.payload) == 1 else b"yes"
+
+        calls.run()
+
+
+def serve_async(port: int) -> None:
+    async def main() -> None:
+        with opened(2, port, max_peers=100) as udp:
+            udp.open_port(SERVICE, PortKind.SERVICE)
+            async with driver.AsyncCalls(udp) as calls:
+
+                @calls.on(SERVICE)
+                async def slow(request: Request) -> bytes:
+                    await asyncio.sleep(0.01)
+                    return request.payload[::-1]
+
+                await calls.run()
+
+    asyncio.run(main())
+
+
+@contextmanager
+def service(function: Callable[[int], None]) -> Iterator[int]:
+    """A process that serves at the port."""
+    port = free_port()
+    process = multiprocessing.get_context("spawn").Process(target=function, args=(port,), daemon=True)
+    process.start()
+    try:
+        yield port
+    finally:
+        process.kill()
+        process.join()
+
+
+@contextmanager
+def client(port: int) -> Iterator[tuple[driver.Udp, deltat.Flow]]:
+    with opened(deltat.fresh_number()) as udp:
+        udp.set_peer(2, HOST, port)
+        udp.open_port(CALLER, PortKind.CALLER)
+        yield udp, deltat.Flow(udp.node, CALLER, 2, SERVICE)
+
+
+# --- cases
+
+
+def calls() -> str:
+    """Calls one after another, of every size; a request that is forgotten; and a service that isn't there."""
+    with service(serve) as port, client(port) as (udp, flow):
+        made = driver.Calls(udp)
+        until = time.monotonic() + 30
+        while True:
+            try:
+                wants(made.call(flow, b"hello", timeout=2.0) == b"olleh", "an answer")
+                break
+            except Unsure:  # (the process isn't there yet)
+                wants(time.monotonic() < until, "the service doesn't begin")
+        for size in (0, 1, 1000, 1442, 30000, 60000):
+            payload = bytes(i * 7 & 255 for i in range(size))
+            wants(made.call(flow, payload) == payload[::-1], f"{size} octets")
+        other = flow._replace(target_port=OTHER)
+        wants(made.call(other, b"xx") == b"yes", "the other port")
+        wants(
+            raises(Unsure, lambda: made.call(other, b"x", timeout=0.3)).cause == Cause.TIMEOUT, "a forgotten request"
+        )
+        nobody = flow._replace(target=3)
+        wants(raises(Unsure, lambda: made.call(nobody, b"x", timeout=0.3)).cause == Cause.TIMEOUT, "nobody is there")
+        raises(deltat.InvalidArgument, lambda: made.call(flow, bytes(70000)))
+        raises(deltat.InvalidArgument, lambda: made.call(flow._replace(source_port=11), b"x"))
+        raises(
+            Declined,
+            lambda: [made.udp and driver._made(udp, nobody, bytes(30000), 0.1) for _ in range(9)],
+        )
+        wants(udp.drain(5.0), "all is acknowledged or uncertain")
+    raises(deltat.Stopped, lambda: made.call(flow, b"x"))
+    return "answers, Unsure, Declined, InvalidArgument, Stopped"
+
+
+def at_once() -> str:
+    """Two hundred calls at once in asyncio, to a service in asyncio."""
+
+    async def main(port: int) -> list[bytes]:
+        with client(port) as (udp, flow):
+            async with driver.AsyncCalls(udp) as made:
+                for _ in range(20):
+                    try:
+                        await made.call(flow, b"up", timeout=2.0)
+                        break
+                    except Unsure:
+                        pass
+                begun = time.monotonic()
+                found = await asyncio.gather(*(made.call(flow, b"%d" % i, timeout=10.0) for i in range(200)))
+                wants(time.monotonic() - begun < 5, "they are under way at once")
+                try:
+                    await made.call(flow._replace(target=3), b"x", timeout=0.2)
+                except Unsure:
+                    return found
+                raise AssertionError("nobody is there, and it is answered")
+
+    with service(serve_async) as port:
+        found = asyncio.run(main(port))
+    wants(found == [(b"%d" % i)[::-1] for i in range(200)], "each has its own answer")
+    return "200 calls"
+
+
+def messages() -> str:
+    """Plain messages between two nodes of this process, by poll."""
+    with opened(1, service=False) as one, opened(2, service=False) as two:
+        for it, other, number in ((one, two, 2), (two, one, 1)):
+            it.set_peer(number, HOST, other.port)
+            it.open_port(SERVICE)
+        flow, sent = deltat.Flow(1, SERVICE, 2, SERVICE), [bytes([i]) * (1 + 997 * i) for i in range(30)]
+        found: list[deltat.Message] = []
+        waiting = list(sent)
+        until = time.monotonic() + 30
+        while len(found) < len(sent) and time.monotonic() < until:
+            try:
+                while waiting:
+                    one.send(flow, waiting[0])
+                    waiting.pop(0)
+            except deltat.Full:
+                pass
+            found += two.poll(0.01)
+            one.poll(0.0)
+        wants([it.octets for it in found] == sent and all(it.flow == flow for it in found), "every message, in order")
+        raises(deltat.InvalidArgument, lambda: one.send(flow.reversed(), b"x"))
+        raises(deltat.Full, lambda: one.send(flow, bytes(70000)))
+        wants(one.drain(5.0), "all is acknowledged")
+    return "30 messages"
+
+
+def uncertain() -> str:
+    """A client that goes before its answer arrives: the service learns that its reply was given up, and of which flow."""
+    with opened(2, free_port(), max_peers=1) as udp:
+        udp.open_port(SERVICE, PortKind.SERVICE)
+        calls = driver.Calls(udp)
+        with client(udp.port) as (caller, flow):
+            made = driver.Calls(caller)
+            request = None
+            until = time.monotonic() + 20
+            driver._made(caller, flow, b"x", 5.0)
+            while request is None and time.monotonic() < until:
+                made._step(10)
+                request = next(calls.requests(0.01), None)
+            wants(request is not None, "the request arrives")
+        calls.reply(request.token, b"yes")
+        until = time.monotonic() + 20
+        while not calls.uncertain and time.monotonic() < until:
+            calls._step(100)
+        wants(calls.uncertain == {flow}, f"the flow of the request: {calls.uncertain}")
+    return "the flow of its request"
+
+
+def errors() -> str:
+    """What can't be opened, and a start that is silent."""
+    port = free_port()
+    with opened(1, port), tempfile.TemporaryDirectory() as folder:
+        raises(driver.UdpError, lambda: opened(2, port))
+        raises(TypeError, lambda: opened(2, start=None))
+        raises(deltat.InvalidArgument, lambda: opened(1 << 32))
+        raises(deltat.InvalidArgument, lambda: driver.Udp(2, deltat.Params(0, *[1] * 8), 1, start=Start.FIRST))
+        with opened(3, start=None, state=folder) as udp:
+            wants(udp.life == 1 and udp.silence == 0, "a folder that is new")
+            raises(deltat.StateError, lambda: opened(3, start=None, state=folder))
+            raises(deltat.InvalidArgument, lambda: udp.set_peer(9, "no.such.name.invalid", 1))
+            udp.open_port(CALLER, PortKind.CALLER)
+            raises(deltat.InvalidArgument, lambda: udp.open_port(CALLER, PortKind.CALLER))
+        with opened(3, start=None, state=folder) as udp:
+            wants(udp.life == 2 and udp.silence > 0, "a second start")
+            udp.open_port(CALLER, PortKind.CALLER)
+            found = raises(Declined, lambda: driver.Calls(udp).call(deltat.Flow(3, CALLER, 2, SERVICE), b"x"))
+            wants(found.status == Status.QUIET and found.until > 0, "it is silent")
+            raises(Gone, lambda: driver._replied(udp, Token(deltat.Flow(2, 1, 3, CALLER), 1), b"x"))
+            child = os.fork()
+            if child == 0:
+                try:
+                    udp.poll()
+                except deltat.Stopped:
+                    os._exit(0)
+                os._exit(1)
+            wants(os.waitpid(child, 0)[1] == 0, "a forked child is refused")
+            wants(udp.poll() == [], "its parent continues")
+    return "UdpError, StateError, InvalidArgument, Declined, Gone, Stopped"
+
+
+CASES = [calls, at_once, messages, uncertain, errors]
+
+
+def main() -> int:
+    reads = argparse.ArgumentParser(description=__doc__, formatter_class=argparse.RawDescriptionHelpFormatter)
+    reads.add_argument("cases", nargs="*", metavar="CASE", help=", ".join(it.__name__ for it in CASES))
+    given = reads.parse_args()
+    failed = 0
+    for it in CASES:
+        if given.cases and it.__name__ not in given.cases:
+            continue
+        begun = time.monotonic()
+        try:
+            said = it()
+        except AssertionError as why:
+            said, failed = f"FAILED: {why}", failed + 1
+        print(f"{it.__name__}: {said} ({time.monotonic() - begun:.1f} s)", flush=True)
+    return 1 if failed else 0
+
+
+if __name__ == "__main__":
+    sys.exit(main())
