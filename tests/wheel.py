@@ -71,7 +71,7 @@ def made(folder: pathlib.Path, python: str) -> Iterator[Case]:
 def block_of(page: str, after: str) -> str:
     """The program in Python that stands first after these words of a page."""
     text = (TOP / page).read_text()
-    found = re.search(r"```(?:python)?\n(import deltat\n.*?|\"\"\".*?)```\n", text[text.index(after):], re.DOTALL)
+    found = re.search(r"```(?:python)?\n(import .*?|\"\"\".*?)```\n", text[text.index(after):], re.DOTALL)
     return found[1] if found else ""
 
 
@@ -79,7 +79,7 @@ def programs(python: str, folder: pathlib.Path) -> Iterator[Case]:
     example = TOP / "examples" / "hello.py"
     text = example.read_text()
     yield "docs/library.md shows examples/hello.py", text in (TOP / "docs" / "library.md").read_text(), ""
-    for name, program in (("examples/hello.py", text), ("README", block_of("README.md", "## The library"))):
+    for name, program in (("examples/hello.py", text), ("README", block_of("README.md", "## A service and its client"))):
         lines = program.splitlines()
         is_short = 0 < len(lines) <= MOST_LINES and max(map(len, lines)) <= 120
         yield f"{name} has at most {MOST_LINES} lines", is_short, f"{len(lines)} lines"
