@@ -4,16 +4,18 @@
 Usage: tests/chroot.py [PROGRAM] [--cache FOLDER]
 
 debootstrap makes two trees of Debian 12, which FOLDER (out/chroot) keeps as archives for the next time: one with what
-its variant minbase has, and one that has python3, man, pkg-config, a C compiler and systemd too. Each is unpacked anew.
+its variant minbase has, and one that has python3, man, pkg-config, compilers of C, C++ and Rust, CMake and systemd too.
+Each is unpacked anew.
 
 - In the first, which has no toolchain, no compiler and no Python, the package is installed, every block of README and
   of the tutorial is run in a copy of its pages, a clone's `./deltat` takes the installed program, and two nodes start by
   their state folders. Then it is removed, and nothing is left.
 - In the second, the blocks of the other pages for users are run, with the library where `make -C lib` has made it; a
   program in C is compiled by pkg-config, and a client in Python asks it; the programs in C and C++ of the library's page
-  are compiled by pkg-config and by CMake, and pip installs the wheel into an environment of its own; man shows each man
-  page. Then systemd is started there, as the first process of namespaces and of a cgroup of its own: the unit's node
-  starts as `first`, is killed, and is started as `again`; a script that is refused isn't started once more.
+  are compiled by pkg-config and by CMake, the one in Rust by cargo, without a network, with the crates' path, and pip
+  installs the wheel into an environment of its own; man shows each man page. Then systemd is started there, as the
+  first process of namespaces and of a cgroup of its own: the unit's node starts as `first`, is killed, and is started
+  as `again`; a script that is refused isn't started once more.
 
 Neither has a network but for its own loopback. Skipped where there is no root, no debootstrap, or no tree after
 MAKING seconds, as without a network.
@@ -31,12 +33,13 @@ from pathlib import Path
 
 from lib import PROGRAM, TOP, skip, tell
 from package import ASKS, LIBRARY, Case, example
+from tutorial import entering
 
 SUITE = "bookworm"
 MIRROR = "http://deb.debian.org/debian"
 # how long the making of a tree may take, and what else is done in one
 MAKING, DOING = 800, 300
-ADDED = "python3 python3-venv man-db pkg-config gcc g++ cmake make libc6-dev systemd"
+ADDED = "python3 python3-venv man-db pkg-config gcc g++ cmake make libc6-dev cargo rustc systemd"
 INSIDE = "DELTAT_TEST_INSIDE"
 # with mounts and a network of its own
 ALONE = ("unshare", "--mount", "--propagation", "private", "--net")
@@ -63,14 +66,31 @@ ldconfig -p | grep -q libdeltat.so.2
 timeout 30 /root/echo &
 sleep 1
 python3 examples/echo.py ask hello world
-kill %1
+kill $!
 """
-# the wheel of the Python package, in an environment of its own
-WHEEL = """python3 -m venv /root/environment
+# the wheel of the Python package, in an environment of its own, and with it the programs of README and of the library's
+# page; `block` gives a page's first block of a language
+BLOCK = r"""block() { sed -n "/^\`\`\`$1\$/,/^\`\`\`\$/{/^\`\`\`\$/q;/^\`/d;p;}" "/usr/share/doc/deltat/$2"; }
+"""
+WHEEL = BLOCK + """python3 -m venv /root/environment
 /root/environment/bin/pip install --no-index --quiet /root/deltat-*.whl
 cd /
 /root/environment/bin/python -c 'import deltat; print(deltat.__file__.startswith("/root/environment/"))'
-/root/environment/bin/python /usr/share/doc/deltat/examples/hello.py
+PATH=/root/environment/bin:$PATH
+python /usr/share/doc/deltat/examples/hello.py
+mkdir /root/calls /root/messages
+block python README.md >/root/calls/service.py
+block python docs/library.md >/root/messages/service.py
+cd /root/calls
+timeout 60 python service.py &
+sleep 1
+python service.py ask
+kill $! && wait
+cd /root/messages
+timeout 60 python service.py &
+sleep 3
+python /usr/share/doc/deltat/examples/echo.py ask hello world
+kill $!
 """
 # the two programs of docs/library.md, by pkg-config and by CMake
 HELLO = """cd /root/copy/examples
@@ -90,6 +110,27 @@ target_link_libraries(hello++ PRIVATE deltat::static)
 END
 cmake -S /root/project -B /root/project/made >/dev/null && cmake --build /root/project/made >/dev/null
 /root/project/made/hello && /root/project/made/hello++
+"""
+# the service of the same page in Rust, by the path of its crates, with the oldest Rust that the page names; behind its
+# silence the client in Python asks it
+RUST = BLOCK + r"""rustc --version | grep -q '^rustc 1\.63\.'
+mkdir -p /root/crate/src
+cd /root/crate
+cat >Cargo.toml <<'END'
+[package]
+name = "service"
+version = "0.1.0"
+edition = "2021"
+
+[dependencies]
+deltat = { path = "/usr/share/deltat/rust/deltat" }
+END
+block rust docs/library.md >src/main.rs
+cargo build --offline --quiet
+timeout 30 target/debug/service &
+sleep 3
+python3 /root/copy/examples/echo.py ask hello world
+kill $!
 """
 # what systemd runs: the unit of two nodes, of which one is killed and the other's script is refused
 UNIT = """[Service]
@@ -195,7 +236,7 @@ def unpack(archive: Path, root: Path) -> None:
 
 def within(root: Path, text: str) -> "subprocess.CompletedProcess[str]":
     """Commands in a tree."""
-    return run("chroot", str(root), "bash", "-euc", f"set -o pipefail\ncd /root\n{text}")
+    return run(*entering(root, "bash", "-euc", f"set -o pipefail\ncd /root\n{text}"))
 
 
 def pages(root: Path, *names: str) -> list[Case]:
@@ -255,15 +296,22 @@ def library_cases(root: Path) -> list[Case]:
     if not LIBRARY.exists():
         return [("the library", True, "it isn't made here")]
     (root / "root" / "asks.py").write_text(ASKS)
-    asks, echo, hello = within(root, "python3 asks.py"), within(root, COMPILED), within(root, HELLO)
     run("sh", str(TOP / "release" / "wheel.sh"), str(root / "root"))
-    wheel = within(root, WHEEL)
-    return [
-        ("the wheel, by pip, and examples/hello.py", (wheel.returncode, wheel.stdout) == (0, "True\nhello\n"), wheel.stdout + wheel.stderr[-300:]),
-        ("the Python package, where it is installed", asks.stdout == "[b'hello']\n", asks.stderr[-300:]),
-        ("a C program by its pkg-config file, and a client in Python", (echo.returncode, echo.stdout) == (0, "olleh\ndlrow\n"), echo.stdout + echo.stderr[-300:]),
-        ("the programs of the library's page, by pkg-config and by CMake", (hello.returncode, hello.stdout) == (0, "hello\n" * 4), hello.stdout + hello.stderr[-300:]),
+    parts = [
+        ("the Python package, where it is installed", "python3 asks.py", "[b'hello']\n"),
+        ("the wheel, by pip, and the programs in Python", WHEEL, "True\nhello\nb'olleh'\nolleh\ndlrow\n"),
+        ("a C program by its pkg-config file, and a client in Python", COMPILED, "olleh\ndlrow\n"),
+        ("the programs of the library's page, by pkg-config and by CMake", HELLO, "hello\n" * 4),
+        ("the program in Rust of that page, by its crates' path", RUST, "olleh\ndlrow\n"),
     ]
+    return [wrote(root, *it) for it in parts]
+
+
+def wrote(root: Path, name: str, text: str, wanted: str) -> Case:
+    """Whether commands in a tree end with 0 and write this."""
+    ran = within(root, text)
+    is_right = (ran.returncode, ran.stdout) == (0, wanted)
+    return name, is_right, "" if is_right else ran.stdout + ran.stderr[-300:]
 
 
 def full_cases(root: Path, package: str) -> list[Case]:

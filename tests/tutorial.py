@@ -128,8 +128,9 @@ class Reader:
         self.ended_badly: list[str] = []
         # terminals whose last commands weren't run
         self.left_out: set[str] = set()
-        # where the unit is
+        # where the unit is, and for the page's commands the state folders of nodes
         self.units = self.top / "release"
+        self.states = str(self.top / "state")
         self.furnish(program)
 
     def furnish(self, program: str) -> None:
@@ -158,7 +159,7 @@ class Reader:
 
     def start(self, text: str) -> "subprocess.Popen[str]":
         # (the nodes of each page are new ones)
-        places = {**os.environ, "XDG_STATE_HOME": str(self.top / "state")}
+        places = {**os.environ, "XDG_STATE_HOME": self.states}
         return subprocess.Popen(["bash", "-euc", "set -o pipefail\n" + text], cwd=self.top, stdin=subprocess.DEVNULL, stdout=subprocess.PIPE,
                                 stderr=subprocess.STDOUT, text=True, start_new_session=True, env=places)
 
@@ -242,6 +243,12 @@ class Reader:
         return self.ended_badly
 
 
+def entering(root: Path, *words: str) -> list[str]:
+    """A command in a tree, which has a /proc for it: state folders know the boot by that, and rustc itself."""
+    enters = 'mount -t proc proc "$0/proc" && exec chroot "$0" "$@"'
+    return ["unshare", "--mount", "--propagation", "private", "sh", "-c", enters, str(root), *words]
+
+
 class Installed(Reader):
     """One who does what a page says in a tree where the package is installed, in a copy of its pages."""
 
@@ -249,6 +256,7 @@ class Installed(Reader):
         self.root = root
         super().__init__(root / "root" / "copy", "")
         self.units = root / "lib" / "systemd" / "system"
+        self.states = "/root/copy/state"
 
     def furnish(self, program: str) -> None:
         shutil.rmtree(self.top, ignore_errors=True)
@@ -265,12 +273,15 @@ class Installed(Reader):
         return (self.root / "usr/bin" / name).exists()
 
     def start(self, text: str) -> "subprocess.Popen[str]":
-        return super().start(f"exec chroot {shlex.quote(str(self.root))} bash -euc {shlex.quote(f'set -o pipefail; cd /root/copy{chr(10)}{text}')}")
+        words = entering(self.root, "bash", "-euc", f"set -o pipefail; cd /root/copy\n{text}")
+        return super().start(f"exec {shlex.join(words)}")
 
     def service(self, text: str) -> "subprocess.Popen[str] | None":
         if not self.has_library:
             return None
-        return subprocess.Popen(["chroot", str(self.root), "python3", "-c", text], stderr=subprocess.PIPE, text=True)
+        # in the page's copy, so that no page has the state folder of another one's service
+        words = entering(self.root, "sh", "-c", 'cd /root/copy && exec python3 -c "$0"', text)
+        return subprocess.Popen(words, stderr=subprocess.PIPE, text=True)
 
 
 def why_not(reader: Reader, block: Block) -> str:
