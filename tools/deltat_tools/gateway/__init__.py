@@ -1,0 +1,1 @@
+"""The gateway between HTTP and calls: configuration, messages, journals, and its two sides."""
