@@ -262,10 +262,10 @@ def unix_socket() -> None:
         for _ in range(2):
             with running(sys.executable, GATEWAY, "unix.toml", keeps=False):
                 waits_until_up(f"{os.getcwd()}/http.sock")
-                found = b""
-                for _ in range(20):
+                found, end = b"", time.monotonic() + 30
+                while b"served" not in found and time.monotonic() < end:
                     # (the other gateway may not be up yet: then the key settles it)
-                    found = found if b"served" in found else subprocess.run(curl, capture_output=True).stdout
+                    found = subprocess.run(curl, capture_output=True).stdout
                 holds(found == b"served /shop local", f"over a Unix socket: {found!r}")
     print("unix socket: answered, and again after a kill, though the socket's file was left")
 
