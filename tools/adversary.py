@@ -15,11 +15,13 @@ once more MS ms after it left). `kill client` or `kill dispenser` may follow, an
 
 LANE is deltat (two nodes that `deltat replay` runs; the judge is `deltat audit`, and each order is counted too), http (with
 retries), keys (HTTP with keys in memory) or coap (confirmable messages); the last three are models. With --slow the network
-may hold packets of a model for 400 s. Of Delta-t that would break a premise, and a replay refuses it.
+may hold packets of a model for 400 s. Of Delta-t that would break a premise, and a replay refuses it. With --no-kills it
+can't kill.
 
 Ends with 0 if the network never won, with 1 if it won, and with 2 if something is wrong."""
 import argparse
 import os
+import select
 import shlex
 import subprocess
 import sys
@@ -34,10 +36,12 @@ from types import TracebackType
 from deltat_tools import contest
 from deltat_tools.arguments import number
 from deltat_tools.contest import Answer, Result, Rules, Search, Wrong
-from deltat_tools.replayed import Broken, default_program
+from deltat_tools.replayed import CHARGE, Broken, default_program
 
 # games of a search that one process plays
-SHARE = 50
+SHARE = 25
+# how long a program may take for an answer, in seconds, and the most octets of a line
+PATIENCE, LONGEST = 10, 4096
 
 
 class Player:
@@ -46,9 +50,11 @@ class Player:
     def __init__(self, words: Sequence[str], rules: Rules):
         self.words, self.rules = words, rules
 
+        self.pending = b""
+
     def __enter__(self) -> "Player":
         try:
-            self.process = subprocess.Popen(self.words, stdin=subprocess.PIPE, stdout=subprocess.PIPE, text=True, bufsize=1)
+            self.process = subprocess.Popen(self.words, stdin=subprocess.PIPE, stdout=subprocess.PIPE, bufsize=0)
         except OSError as why:
             raise Wrong(f"{shlex.join(self.words)} can't be run: {why}") from None
         return self
@@ -56,16 +62,27 @@ class Player:
     def answer(self, line: str, packet: int) -> Answer:
         """What the program answers for a packet."""
         del packet
-        assert self.process.stdin and self.process.stdout
+        assert self.process.stdin
         try:
-            self.process.stdin.write(f"{line}\n")
-            self.process.stdin.flush()
+            self.process.stdin.write(f"{line}\n".encode())
         except OSError:
-            raise Wrong(f"{shlex.join(self.words)} ended at packet {line!r}; it must answer each line until its input ends") from None
-        told = self.process.stdout.readline()
-        if not told:
-            raise Wrong(f"{shlex.join(self.words)} gave no answer to {line!r}; write a line for each packet, and flush it")
-        return self.rules.read(told.strip())
+            raise Wrong(f"{shlex.join(self.words)} ended before packet {line!r}; it must answer each line until its input ends") from None
+        return self.rules.read(self.read_line(line))
+
+    def read_line(self, asked: str) -> str:
+        """The next line of the program."""
+        assert self.process.stdout
+        where, until = self.process.stdout.fileno(), time.monotonic() + PATIENCE
+        while b"\n" not in self.pending:
+            waits = until - time.monotonic()
+            if waits <= 0 or not select.select([where], [], [], waits)[0]:
+                raise Wrong(f"{shlex.join(self.words)} gave no answer to {asked!r} in {PATIENCE} s; write a line for each packet, and flush it")
+            octets = os.read(where, 4096)
+            if not octets or len(self.pending) > LONGEST:
+                raise Wrong(f"{shlex.join(self.words)} gave no answer to {asked!r}; it must write a line for each packet until its input ends")
+            self.pending += octets
+        line, self.pending = self.pending.split(b"\n", 1)
+        return line.decode("utf-8", "replace").strip()
 
     def __exit__(self, kind: type[BaseException] | None, why: BaseException | None, where: TracebackType | None) -> None:
         assert self.process.stdin and self.process.stdout
@@ -115,7 +132,8 @@ def tasks_of(given: argparse.Namespace, rules: Rules) -> Iterator[Task]:
 def show(result: Result) -> None:
     """The moves of a game."""
     for line, answer in result.moves:
-        print(f"{line:<44}  {answer}")
+        place, moment, source, target, text = line.split(" ", 4)
+        print(f"{place:>3} {moment:>6} {source:<9} {target:<9} {text:<16} {answer}")
 
 
 def play_many(given: argparse.Namespace, rules: Rules) -> int:
@@ -128,17 +146,18 @@ def play_many(given: argparse.Namespace, rules: Rules) -> int:
                 near[result.near] += 1
                 if result.won:
                     pool.shutdown(cancel_futures=True)
-                    return lost(given, result, f"game {played}")
+                    return lost(given, result, played)
     kind = "search" if given.search else "chance"
     print(f"{given.against}: {played} games by {kind}, and the network never won; {time.monotonic() - begun:.0f} s", file=sys.stderr)
     print(f"{given.against}: {played} games by {kind}: the network never won")
     return 0
 
 
-def lost(given: argparse.Namespace, result: Result, game: str) -> int:
-    """The network has won."""
-    show(result)
-    print(f"{given.against}: {game}: {result.won}: the network wins")
+def lost(given: argparse.Namespace, result: Result, game: int) -> int:
+    """The network has won. What it needn't have done is left out."""
+    short = contest.shrunk(given.against, given.program, result)
+    show(short)
+    print(f"{given.against}: {short.won} in game {game}: the network wins")
     return 1
 
 
@@ -162,6 +181,7 @@ def arguments() -> argparse.Namespace:
     it.add_argument("--search", type=number(1, 1_000_000, int), default=0, metavar="GAMES", help="play so many games by a directed search")
     it.add_argument("--seed", type=number(0, 1 << 31, int), default=1, metavar="N", help="where chance begins (1)")
     it.add_argument("--slow", action="store_true", help="the network may hold packets of a model for 400 s")
+    it.add_argument("--no-kills", action="store_true", help="the network may not kill")
     it.add_argument("--jobs", type=number(1, 256, int), default=os.cpu_count() or 1, metavar="N", help="processes (one for each processor)")
     it.add_argument("--keep", metavar="FILE", help="write the schedule of a game against deltat")
     it.add_argument("--program", default=default_program(), metavar="PATH", help="the program deltat (%(default)s)")
@@ -177,7 +197,7 @@ def arguments() -> argparse.Namespace:
 
 def main() -> int:
     given = arguments()
-    rules = Rules(contest.SLOW) if given.slow else Rules()
+    rules = Rules(contest.SLOW if given.slow else CHARGE, not given.no_kills)
     try:
         return play_one(given, rules) if given.player else play_many(given, rules)
     except (Wrong, Broken, OSError) as why:

@@ -8,6 +8,7 @@ import random
 import re
 from collections.abc import Callable, Sequence
 from dataclasses import dataclass, field
+from functools import partial
 
 from deltat_tools.lanes import Kind, Lane, Packet, Side
 from deltat_tools.replayed import CHARGE, Replayed
@@ -41,16 +42,17 @@ class Answer:
     down: int = DOWN
 
     def __str__(self) -> str:
-        words = {0: "lose", 1: "pass" if self.arrivals == (DELAY,) else f"hold {self.arrivals[-1] if self.arrivals else 0}",
-                 2: f"twice {self.arrivals[-1] if self.arrivals else 0}"}[len(self.arrivals)]
-        return words + (f" kill {self.killed.word} {self.down}" if self.killed else "")
+        words = "lose" if not self.arrivals else "pass" if self.arrivals == (DELAY,) else ("hold", "twice")[len(self.arrivals) - 1]
+        span = f" {self.arrivals[-1]}" if words in ("hold", "twice") else ""
+        return words + span + (f" kill {self.killed.word} {self.down}" if self.killed else "")
 
 
 @dataclass(frozen=True)
 class Rules:
-    """What a network may do: how long it may hold a packet."""
+    """What a network may do: how long it may hold a packet, and whether it may kill."""
 
     limit: int = CHARGE
+    kills: bool = True
 
     def read(self, line: str) -> Answer:
         """The answer in a line."""
@@ -61,6 +63,8 @@ class Rules:
         span = int(wait or 0)
         if span > self.limit:
             raise Wrong(f"the answer is {line!r}; this network holds a packet for at most {self.limit} ms")
+        if side and not self.kills:
+            raise Wrong(f"the answer is {line!r}; this network doesn't kill")
         if int(down or 0) > SLOW:
             raise Wrong(f"the answer is {line!r}; a node is down for at most {SLOW} ms")
         arrivals = {"pass": (DELAY,), "lose": (), "hold": (span,), "twice": (min(DELAY, span), span)}[plain or word]
@@ -126,14 +130,14 @@ class Contest:
         self.left[packet.number] = len(answer.arrivals)
         moments = [max(self.lane.now, packet.put + it) for it in answer.arrivals]
         for moment in moments:
-            self.at(moment, lambda: self.arrive(packet))
+            self.at(moment, partial(self.arrive, packet))
         if not moments:
             self.lane.lose(packet)
         side = answer.killed
         if side is not None:
             killed = moments[0] if moments else self.lane.now
-            self.at(killed, lambda: self.lane.kill(side))
-            self.at(killed + answer.down, lambda: self.lane.start(side))
+            self.at(killed, partial(self.lane.kill, side))
+            self.at(killed + answer.down, partial(self.lane.start, side))
 
     def arrive(self, packet: Packet) -> None:
         self.left[packet.number] -= 1
@@ -153,7 +157,7 @@ class Contest:
     def run(self) -> Result:
         """Plays the game."""
         for place in range(ORDERS):
-            self.at(place * EVERY, lambda order=place + 1: self.lane.order(order))
+            self.at(place * EVERY, partial(self.lane.order, place + 1))
         end = (ORDERS - 1) * EVERY + REST
         while self.events or self.lane.now < end:
             moment = self.events[0].moment if self.events else end
@@ -188,7 +192,7 @@ def random_answer(chance: random.Random, rules: Rules) -> Answer:
     span = chance.choice(waits)
     kind = chance.random()
     arrivals = (DELAY,) if kind < 0.4 else () if kind < 0.6 else (span,) if kind < 0.8 else (min(DELAY, span), span)
-    if chance.random() < 0.88:
+    if chance.random() < 0.88 or not rules.kills:
         return Answer(arrivals)
     side = Side.DISPENSER if chance.random() < 0.7 else Side.CLIENT
     return Answer(arrivals, side, chance.choice([1, DOWN, 1_000, 5_000, 19_000, 20_000]))
@@ -203,6 +207,22 @@ def random_network(seed: int, rules: Rules) -> Network:
 def play(name: str, program: str, network: Network) -> Result:
     """One game against a lane."""
     return Contest(lane_of(name, program), network).run()
+
+
+def answers_of(answers: dict[int, Answer]) -> Network:
+    """A network that has these answers, by the numbers of packets, and passes all others."""
+    return lambda line, number: answers.get(number, Answer())
+
+
+def shrunk(name: str, program: str, result: Result) -> Result:
+    """A game that was won, with as few answers other than `pass` as still win it, taken from the last one on."""
+    answers = {place: answer for place, (_, answer) in enumerate(result.moves) if answer != Answer()}
+    for place in sorted(answers, reverse=True):
+        fewer = {it: answer for it, answer in answers.items() if it != place}
+        shorter = play(name, program, answers_of(fewer))
+        if shorter.won:
+            answers, result = fewer, shorter
+    return result
 
 
 def random_game(name: str, program: str, seed: int, rules: Rules) -> Result:
@@ -229,7 +249,7 @@ class Search:
         answers = dict(self.best)
         for _ in range(self.chance.randint(1, 3)):
             answers[self.chance.randrange(self.length)] = random_answer(self.chance, self.rules)
-        result = play(self.name, self.program, lambda line, number: answers.get(number, Answer()))
+        result = play(self.name, self.program, answers_of(answers))
         if result.near >= self.near:
             self.stale = 0 if result.near > self.near else self.stale + 1
             self.best, self.near, self.length = answers, result.near, max(1, min(len(result.moves), 24))
