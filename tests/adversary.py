@@ -29,6 +29,8 @@ from deltat_tools.rivals import RIVALS  # noqa: E402
 
 TOOL = TOP / "tools" / "adversary.py"
 SECONDS = 20
+# more time for more games than tests/all plays
+LONG = 3_600
 LOSE_ANSWERS = ["sed", "-u", "-e", "s/.* dispenser client .*/lose/", "-e", "t", "-e", "s/.*/pass/"]
 Case = tuple[str, bool, str]
 
@@ -39,15 +41,16 @@ if [ "$1" = replay ]; then {program} replay | sed '/^[0-9]* 2 {word} 1:10/{{p;}}
 
 
 def run(*words: str) -> "subprocess.CompletedProcess[str]":
-    return subprocess.run([sys.executable, str(TOOL), *words], capture_output=True, text=True, timeout=280, check=False)
+    return subprocess.run([sys.executable, str(TOOL), *words], capture_output=True, text=True, timeout=280 + LONG, check=False)
 
 
 def never(path: str, games: int) -> list[Case]:
     cases = []
     for name, count in (("random", games), ("search", games // 2)):
+        begun = time.monotonic()
         ran = run(f"--{name}", str(count), "--program", path)
-        last = (ran.stdout + ran.stderr).splitlines()[-1:]
-        cases.append((name, ran.returncode == 0 and f"{count} games" in ran.stdout and "never won" in ran.stdout, "".join(last)))
+        last = f"{''.join((ran.stdout + ran.stderr).splitlines()[-1:])}, {time.monotonic() - begun:.0f} s"
+        cases.append((name, ran.returncode == 0 and f"{count} games" in ran.stdout and "never won" in ran.stdout, last))
     return cases
 
 

@@ -26,7 +26,6 @@ import shlex
 import subprocess
 import sys
 import time
-from collections import Counter
 from collections.abc import Iterator, Sequence
 from concurrent.futures import ProcessPoolExecutor
 from dataclasses import dataclass
@@ -138,17 +137,17 @@ def show(result: Result) -> None:
 
 def play_many(given: argparse.Namespace, rules: Rules) -> int:
     """Games of chance or of a search, on several processors."""
-    begun, played, near = time.monotonic(), 0, Counter[int]()
+    played = 0
     with ProcessPoolExecutor(given.jobs) as pool:
         for results in pool.map(games_of, tasks_of(given, rules)):
             for _, result in results:
                 played += 1
-                near[result.near] += 1
                 if result.won:
                     pool.shutdown(cancel_futures=True)
                     return lost(given, result, played)
+            if sys.stderr.isatty():
+                print(f"{played} games", end="\r", file=sys.stderr, flush=True)
     kind = "search" if given.search else "chance"
-    print(f"{given.against}: {played} games by {kind}, and the network never won; {time.monotonic() - begun:.0f} s", file=sys.stderr)
     print(f"{given.against}: {played} games by {kind}: the network never won")
     return 0
 
