@@ -11,7 +11,7 @@ from dataclasses import dataclass, field
 from functools import partial
 
 from deltat_tools.lanes import Kind, Lane, Packet, Side
-from deltat_tools.replayed import CHARGE, Replayed
+from deltat_tools.replayed import CHARGE, PARAMS, Replayed
 from deltat_tools.rivals import RIVALS
 
 ORDERS, EVERY = 3, 8_000
@@ -195,7 +195,7 @@ def random_answer(chance: random.Random, rules: Rules) -> Answer:
     if chance.random() < 0.88 or not rules.kills:
         return Answer(arrivals)
     side = Side.DISPENSER if chance.random() < 0.7 else Side.CLIENT
-    return Answer(arrivals, side, chance.choice([1, DOWN, 1_000, 5_000, 19_000, 20_000]))
+    return Answer(arrivals, side, chance.choice([1, DOWN, 1_000, 5_000, PARAMS.quiet - 1, PARAMS.quiet]))
 
 
 def random_network(seed: int, rules: Rules) -> Network:

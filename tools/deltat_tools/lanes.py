@@ -81,6 +81,8 @@ class Lane(ABC):
     """One protocol with its client and its dispenser. Both are running at the moment 0."""
 
     name = ""
+    # how long a node is silent that starts again
+    quiet_time = 0
 
     def __init__(self) -> None:
         self.now = 0

@@ -11,7 +11,7 @@ from deltat_tools.parameters import Params
 TOP = Path(__file__).resolve().parent.parent.parent
 # the longest that a packet may be under way, which is a premise: later, a replay refuses its arrival
 CHARGE = 5_000
-PARAMS = Params(CHARGE + 100, 4_000, 100, 1_000, 2_000, 1_000, 4_096, 4_096, 4_096, 2**31)
+PARAMS = Params(CHARGE + 100, 6_000, 100, 2_000, 4_000, 1_000, 4_096, 4_096, 4_096, 2**31)
 SETUP = f"""{PARAMS.line()}
 station 1 0
 station 2 0
@@ -53,6 +53,7 @@ class Replayed(Lane):
     """Two nodes of Delta-t, run by the program."""
 
     name = "Delta-t"
+    quiet_time = PARAMS.quiet
 
     def __init__(self, program: str) -> None:
         super().__init__()
