@@ -1,12 +1,25 @@
 #!/usr/bin/env python3
 """tools/demo.py in a headless Chromium and in a terminal: `tests/demo.py [PROGRAM] [--shots FOLDER]`.
 
+- Each key and each button is pressed, as a reader does it; the move that it makes is compared. By Tab and Enter alone an
+  order is made and delivered, and wherever the focus stops it can be seen.
+- The shows beat whom they should beat, and never Delta-t; so does a slow network.
+- The log and the schedule at the end are those of the program; the file that is kept is replayed and played on.
+- At six widths, light and dark: nothing is cut off or hides another, and texts have enough contrast.
+- The server refuses other hosts, other origins and what isn't a move. The terminal plays the same game.
+
+With --shots only screenshots are written. One line a case, and then how many hold. Status 1 if one fails, 77 if there is
+no Chromium.
+
 In tests/all: PROGRAM, 300 s."""
 import argparse
 import base64
+import http.client
 import json
 import os
+import re
 import shutil
+import socket
 import subprocess
 import sys
 import tempfile
@@ -144,7 +157,307 @@ class Served:
         self.process.communicate()
 
 
-SHOW = "become(() => {moves})"
+# what each key does to a run, by what the page asks of the server: before it, the key, and the move that it adds
+KEYS = [
+    ([], "o", "order"), (["order"], "d", "deliver dispenser"), (["order"], "l", "lose dispenser"), (["order"], "t", "twice dispenser"),
+    (["order"], "h", "hold dispenser"), (["order"], "y", "delay dispenser"), (["order", "hold dispenser"], "r", "release dispenser"),
+    (["order", "deliver dispenser"], "d", "deliver client"), (["order"], "w", "wait 1000"), (["order"], "e", "wait 10000"),
+    ([], "c", "kill client"), (["kill client"], "c", "start client"), ([], "k", "kill dispenser"), (["kill dispenser"], "k", "start dispenser"),
+]
+WIDTHS = ((1440, 900), (1100, 760), (1024, 768), (800, 1000), (390, 844), (320, 640))
+# what is wrong with the layout of a page
+LAYOUT = """(() => {
+  const wrong = [], name = (it) => it.dataset.do || it.dataset.show || it.id || it.className || it.textContent;
+  if (document.documentElement.scrollWidth > innerWidth) wrong.push(`the page is ${document.documentElement.scrollWidth} wide`);
+  const there = (it) => it.getClientRects().length > 0;
+  const buttons = [...document.querySelectorAll("button, .ways label, #guide, .more label")].filter(there);
+  for (const it of buttons) {
+    if (it.scrollWidth > it.clientWidth + 1 && it.clientWidth) wrong.push(`${name(it)} is cut off`);
+    if (it.scrollHeight > it.clientHeight + 1 && it.clientHeight) wrong.push(`${name(it)} is too low`);
+    if (it.tagName === "BUTTON" && it.getBoundingClientRect().height < 24) wrong.push(`${name(it)} is too small`);
+  }
+  const boxes = buttons.filter((it) => it.closest("#controls")).map((it) => [it, it.getBoundingClientRect()]);
+  boxes.forEach(([a, p], i) => boxes.slice(i + 1).forEach(([b, q]) => {
+    if (p.left < q.right - 1 && q.left < p.right - 1 && p.top < q.bottom - 1 && q.top < p.bottom - 1) wrong.push(`${name(a)} hides ${name(b)}`); }));
+  const chips = [...document.querySelectorAll(".chip")].filter(there).map((it) => [it.textContent, it.firstChild.getBoundingClientRect(), it.querySelector("text").getBoundingClientRect()]);
+  for (const [text, box, words] of chips) if (words.width > box.width) wrong.push(`${text} is wider than its chip`);
+  for (const svg of [...document.querySelectorAll(".lane svg")].filter(there)) {
+    const frame = svg.getBoundingClientRect();
+    for (const it of svg.querySelectorAll("text")) { const b = it.getBoundingClientRect(); if (b.left < frame.left - 1 || b.right > frame.right + 1) wrong.push(`${it.textContent} leaves its lane`); }
+  }
+  return wrong;
+})()"""
+# the least contrast of texts, by the colours that they have, after WCAG 2
+CONTRAST = """(() => {
+  const light = (c) => { const v = c.match(/[\\d.]+/g).slice(0, 3).map((x) => x / 255).map((x) => x <= .04045 ? x / 12.92 : ((x + .055) / 1.055) ** 2.4); return .2126 * v[0] + .7152 * v[1] + .0722 * v[2]; };
+  const under = (it) => { for (let at = it; at; at = at.parentElement) { const c = getComputedStyle(at).backgroundColor; if (!/, 0\\)$|transparent/.test(c)) return c; } return "rgb(255, 255, 255)"; };
+  let least = 99, where = "";
+  for (const it of document.querySelectorAll("h1, h2, h3, p, b, label, legend, td, th, pre, code, .badge, .tally span, .ends span, button:not(:disabled), kbd, .key span")) {
+    if (!it.getClientRects().length || !it.textContent.trim() || it.closest(":disabled") || it.closest(".unseen")) continue;
+    const a = light(getComputedStyle(it).color), b = light(under(it)), ratio = (Math.max(a, b) + .05) / (Math.min(a, b) + .05);
+    if (ratio < least) { least = ratio; where = it.textContent.slice(0, 30); }
+  }
+  return [least, where];
+})()"""
+
+
+def run_of(page: Page, moves: list[str]) -> None:
+    """Makes these the moves of the run."""
+    page.value("showing += 1")
+    page.value(f"(by('end').hidden = true, way = 'dispenser', become(() => {json.dumps(moves)}))")
+    page.settle()
+
+
+def state(page: Page) -> dict[str, Any]:
+    """What the page has of each lane: whether it is beaten, and its cups."""
+    lanes = page.value("view.lanes.map((it) => [it.id, it.fault, it.orders.map((o) => o.cups), it.orders.map((o) => o.state)])")
+    return {name: (fault, cups, states) for name, fault, cups, states in lanes}
+
+
+def keys(page: Page) -> list[Case]:
+    """Each key, and the way that arrows choose."""
+    page.open()
+    wrong = []
+    for before, key, move in KEYS:
+        run_of(page, before)
+        page.key(key)
+        moves = page.value("moves")
+        if moves != [*before, move]:
+            wrong.append(f"{key} after {before} gave {moves}")
+    run_of(page, ["order", "deliver dispenser", "wait 10000"])
+    ways = []
+    for key in ("ArrowLeft", "ArrowRight"):
+        page.key(key)
+        ways.append(page.value("[way, document.querySelector('[name=way]:checked').value]"))
+    run_of(page, ["order", "wait 1000"])
+    page.key("u")
+    undone = page.value("moves")
+    page.key("j")
+    is_judged = page.value("!by('end').hidden && document.activeElement === by('end')")
+    page.key("n")
+    anew = page.value("[moves.length, by('end').hidden, by('welcome').hidden]")
+    rest = ways == [["client", "client"], ["dispenser", "dispenser"]] and undone == ["order"] and is_judged and anew == [0, True, False]
+    page.value("by('keys').click()")
+    page.key("o")
+    silent = page.value("moves.length") == 0
+    page.value("by('keys').click()")
+    return [("keys", not wrong, "; ".join(wrong) or f"{len(KEYS)} keys"), ("arrows, undo, judge, new", rest, f"{ways}, {undone}, {is_judged}, {anew}"),
+            ("keys that are turned off", silent, "")]
+
+
+def tabs(page: Page) -> list[Case]:
+    """By Tab and Enter alone: an order and its delivery; each place where the focus stops is seen."""
+    page.open()
+    stops, unseen = [], []
+    for _ in range(60):
+        page.key("Tab")
+        it = page.value("(() => { const it = document.activeElement, s = getComputedStyle(it.closest('.ways label') || it); "
+                        "return [it.dataset.do || it.dataset.show || it.id || it.name || it.dataset.lane || it.tagName, s.outlineStyle, s.outlineWidth]; })()")
+        if it[0] == "BODY":
+            break
+        stops.append(it[0])
+        if it[1] == "none" or it[2] == "0px":
+            unseen.append(it[0])
+        if it[0] == "order" and page.value("moves.length") == 0:
+            page.key("Enter")
+        if it[0] == "deliver" and page.value("moves.length") == 1:
+            page.key("Enter")
+    moves = page.value("moves")
+    return [("tab and enter", moves == ["order", "deliver dispenser"] and not unseen, f"{moves}, {len(stops)} stops, no mark at {unseen}")]
+
+
+def buttons(page: Page) -> list[Case]:
+    """Each button, by mouse: the moves of those that have a key are those of the key."""
+    page.open()
+    wrong, pressed = [], set()
+    for before, _, move in KEYS:
+        word = move if move.startswith("wait") else move.split(" ")[1] if move.split(" ")[0] in ("kill", "start") else move.split(" ")[0]
+        run_of(page, before)
+        page.click(f'#controls [data-do="{word}"]')
+        pressed.add(word)
+        if page.value("moves") != [*before, move]:
+            wrong.append(f"{word} after {before} gave {page.value('moves')}")
+    run_of(page, [])
+    page.click('#welcome [data-do="order"]')
+    page.click('[name=way][value=client]')
+    is_client = page.value("way") == "client"
+    page.click(".chip")
+    is_back = page.value("way") == "dispenser"
+    page.click('[data-do="undo"]')
+    undone = page.value("moves") == []
+    run_of(page, ["order"])
+    page.click('[data-do="judge"]')
+    shown = page.value("!by('end').hidden")
+    page.click("#on")
+    hidden = page.value("by('end').hidden")
+    page.click('[data-do="new"]')
+    anew = page.value("moves") == []
+    page.click("#slow")
+    is_slow = page.value("slow && !by('long').hidden")
+    page.click("#long")
+    waited = page.value("moves") == ["wait 250000"]
+    page.key("q")
+    again = page.value("moves.length") == 2
+    page.click("#slow")
+    fast = page.value("!slow && by('long').hidden")
+    pressed |= {"undo", "judge", "new", "wait 250000"}
+    missing = set(page.value("all('[data-do]').map((it) => it.dataset.do)")) - pressed
+    rest = [is_client, is_back, undone, shown, hidden, anew, is_slow, waited, again, fast]
+    return [("buttons", not wrong and not missing, "; ".join(wrong) or f"{len(pressed)} pressed, not {missing}"), ("other controls", all(rest), str(rest))]
+
+
+def shows(page: Page) -> list[Case]:
+    """What the three shows lead to, each by its button and by its key."""
+    want = [{"http"}, {"http", "keys", "coap"}, {"http", "keys", "coap"}]
+    cases = []
+    for place, beaten in enumerate(want):
+        for how in ("button", "key"):
+            page.open()
+            if how == "button":
+                page.click(f'#controls [data-show="{place}"]')
+            else:
+                page.key(str(place + 1))
+            page.wait(f"moves.length === SHOWS[{place}].length")
+            page.settle()
+            told = state(page)
+            found = {name for name, (fault, _, _) in told.items() if fault}
+            good = found == beaten and told["deltat"][1] == [1] and page.value("view.verdict") == "audit yes"
+            cases.append((f"show {place + 1} by {how}", good, f"beaten: {', '.join(sorted(found))}"))
+    return cases
+
+
+def slow(page: Page) -> list[Case]:
+    """A packet of CoAP that is held for longer than its identifier is remembered; and the same in 5 s."""
+    moves = ["order", "twice dispenser", "deliver client", "wait 250000", "release dispenser"]
+    told = []
+    for is_slow in (True, False):
+        page.value(f"become(() => {json.dumps(moves)}, {json.dumps(is_slow)})")
+        page.settle()
+        told.append(state(page))
+    good = told[0]["coap"][1] == [2] and told[0]["deltat"][1] == [1] and told[1]["coap"][1] == [1]
+    return [("slow", good, f"{told[0]['coap'][0]}; within 5 s {told[1]['coap'][1]} cup")]
+
+
+def ends(page: Page, program: str, folder: Path) -> list[Case]:
+    """The verdict, the log and the schedule; the file that is kept, replayed, audited and played on."""
+    page.open()
+    page.value("become(() => SHOWS[1])")
+    page.key("j")
+    title = page.value("by('end-title').textContent")
+    page.call("Browser.setDownloadBehavior", behavior="allow", downloadPath=str(folder))
+    page.click("#save")
+    kept = folder / "network.schedule"
+    until = time.monotonic() + 10
+    while not kept.exists() and time.monotonic() < until:
+        time.sleep(0.05)
+    time.sleep(0.2)
+    page.click("#copy")
+    log = subprocess.run([program, "replay"], input=kept.read_bytes(), capture_output=True, check=False)
+    audit = subprocess.run([program, "audit"], input=log.stdout, capture_output=True, check=False).stdout
+    same = log.stdout.decode() == page.value("by('log').textContent") and kept.read_text() == page.value("by('schedule').textContent")
+    good = title == "You beat HTTP, HTTP+keys and CoAP, and not Delta-t" and same and log.returncode == 0 and audit == b"audit yes\n"
+    cases = [("end", good, f"{title}; {audit.decode().strip()}")]
+    with Served(program, str(kept)) as address:
+        page.address = address
+        page.open("moves.length > 0")
+        page.settle()
+        cases.append(("played on", page.value("JSON.stringify(moves) === JSON.stringify(SHOWS[1])") and page.value("view.schedule") == kept.read_text(), ""))
+    page.key("o")
+    told = page.value("by('fault').textContent")
+    return [*cases, ("server that ended", "Is tools/demo.py still running?" in told, told)]
+
+
+def looks(page: Page, address: str) -> list[Case]:
+    """Layout and contrast at each width, light and dark; screenshots differ and aren't empty."""
+    page.address = address
+    wrong, least, papers = [], (99.0, ""), set()
+    for width, height in WIDTHS:
+        for scheme in ("light", "dark"):
+            page.size(width, height, scheme)
+            page.open()
+            for moves in ("[]", "['order']", "SHOWS[0].slice(0, 6)", "SHOWS[1]", "['order', 'twice dispenser', 'hold client', 'delay client', 'kill client', 'order']"):
+                page.value(f"become(() => {moves})")
+                page.settle()
+                wrong += [f"{width} {scheme} {moves}: {it}" for it in page.value(LAYOUT)]
+            page.value("judge()")
+            least = min(least, tuple(page.value(CONTRAST)))
+            wrong += [f"{width} {scheme} judged: {it}" for it in page.value(LAYOUT)]
+            papers.add((scheme, page.value("getComputedStyle(document.body).backgroundColor")))
+    page.size(1440, 900)
+    return [("layout", not wrong, "; ".join(wrong[:6]) or f"{len(WIDTHS)} widths, light and dark"),
+            ("contrast", least[0] >= 4.5, f"{least[0]:.2f} at least, of {least[1]!r}"), ("light and dark", len(papers) == 2, str(sorted(papers)))]
+
+
+def quiet(page: Page) -> list[Case]:
+    """Nothing of the page failed, and it names nothing that it would fetch."""
+    bad = [it["params"] for it in page.events if it["method"] == "Runtime.exceptionThrown"
+           or it["method"] == "Log.entryAdded" and it["params"]["entry"]["level"] == "error" and "favicon" not in it["params"]["entry"].get("url", "")
+           and "Failed to load resource" not in it["params"]["entry"]["text"]]
+    text = (TOP / "tools" / "demo.html").read_text()
+    named = [it for it in re.findall(r"https?://[^\s\"'<)]*|@import|url\(|\bsrc=|<link", text) if it != "http://www.w3.org/2000/svg"]
+    return [("no fault of the page", not bad, str(bad)[:300]), ("no dependency", not named, str(named))]
+
+
+def server(address: str) -> list[Case]:
+    """What the server refuses."""
+    host = address.split("/")[2]
+    json_type = {"Content-Type": "application/json"}
+    cases = [
+        ("page", "GET", "/", {}, None, 200, "You are the network"), ("path", "GET", "/etc/passwd", {}, None, 404, "only /"),
+        ("other host", "GET", "/", {"Host": "example.org"}, None, 403, "127.0.0.1"), ("other origin", "POST", "/play", {**json_type, "Origin": "http://example.org"}, "{}", 403, "this page"),
+        ("form", "POST", "/play", {"Content-Type": "text/plain"}, '{"moves": []}', 403, "JSON"), ("no JSON", "POST", "/play", json_type, "{", 400, "isn't JSON"),
+        ("deep", "POST", "/play", json_type, "[" * 60_000, 400, "isn't JSON"), ("no moves", "POST", "/play", json_type, "[]", 400, "no list of moves"),
+        ("numbers", "POST", "/play", json_type, '{"moves": [1]}', 400, "no list of moves"), ("a move", "POST", "/play", json_type, '{"moves": ["fly"]}', 400, "the move is 'fly'"),
+        ("a wait", "POST", "/play", json_type, '{"moves": ["wait 150"]}', 400, "multiple of 100"), ("long waits", "POST", "/play", json_type, json.dumps({"moves": ["wait 300000"] * 13}), 400, "begin a new one"),
+        ("many moves", "POST", "/play", json_type, json.dumps({"moves": ["lose client"] * 401}), 400, "400 moves"), ("size", "POST", "/play", json_type, " " * 70_000, 403, "65536"),
+        ("after these", "POST", "/play", json_type, '{"moves": ["order"]}', 200, "order 1"),
+    ]
+    told = []
+    for name, method, path, headers, body, status, want in cases:
+        link = http.client.HTTPConnection(host, timeout=60)
+        link.request(method, path, body, headers)
+        answer = link.getresponse()
+        text = answer.read().decode()
+        policy = "default-src 'none'" in answer.getheader("Content-Security-Policy", "")
+        told.append((f"server: {name}", answer.status == status and want in text and policy, f"{answer.status} {text[:80] if answer.status != status else ''}"))
+        link.close()
+    return told
+
+
+def terminal(program: str, folder: Path) -> list[Case]:
+    """The game in a terminal: the same moves give the same schedule; bad lines get an error, and the game goes on."""
+    kept = folder / "typed.schedule"
+    lines = ["o", "d>", "k>", "s>", "l<", "l<", "w 4", "fly", "w", "u", "w x", "d", "d>", "d>", f"save {kept}", "save /nowhere/x", "?", ""]
+    command = [sys.executable, str(TOOL), "--terminal", "--program", program]
+    ran = subprocess.run(command, input="\n".join(lines), capture_output=True, text=True, timeout=60, check=False)
+    moves = [it[7:] for it in kept.read_text().splitlines() if it.startswith("# move ")]
+    want = ["order", "deliver dispenser", "kill dispenser", "start dispenser", "lose client", "lose client", "wait 4000", "deliver dispenser", "deliver dispenser"]
+    good = ran.returncode == 0 and moves == want and "1: 2! waiting" in ran.stdout and ran.stdout.rstrip().endswith("audit yes") and ran.stdout.count("demo.py:") == 4
+    again = subprocess.run([*command, str(kept)], input="q\n", capture_output=True, text=True, timeout=60, check=False)
+    same = kept.read_text() in again.stdout
+    return [("terminal", good, f"{moves}, {ran.stdout.count('demo.py:')} errors, {ran.stderr[-200:]}"), ("terminal again", same, "")]
+
+
+def bad(program: str, folder: Path) -> list[Case]:
+    """Wrong words get an error and status 2."""
+    (folder / "no").write_text("params 1\n")
+    (folder / "wrong").write_text("# move fly\n")
+    (folder / "binary").write_bytes(b"\xff\xfe")
+    with socket.socket() as taken:
+        taken.bind(("127.0.0.1", 0))
+        taken.listen()
+        cases = [
+            ("file", [str(folder / "nothing")], "No such file"), ("schedule", [str(folder / "no")], "give one that this tool made"), ("moves", [str(folder / "wrong")], "the move is 'fly'"),
+            ("octets", [str(folder / "binary")], "decode"), ("port", ["--port", str(taken.getsockname()[1])], "choose another --port"), ("range", ["--port", "70000"], "must be from"),
+            ("program", ["--program", "/nowhere/deltat"], "./build"), ("another program", ["--program", "/bin/true"], "ended with 0"),
+        ]
+        told = []
+        for name, words, want in cases:
+            command = [sys.executable, str(TOOL), "--no-browser", "--program", program, *words]
+            ran = subprocess.run(command, capture_output=True, text=True, timeout=60, check=False)
+            good = ran.returncode == 2 and want in ran.stderr and "Traceback" not in ran.stderr
+            told.append((f"bad {name}", good, "" if good else f"{ran.returncode} {ran.stderr[-200:]}"))
+    return told
 
 
 def shots(page: Page, folder: Path) -> None:
@@ -179,10 +492,16 @@ def main() -> int:
     browser = next((found for it in BROWSERS if (found := shutil.which(it))), None)
     if not browser:
         skip("there is no Chromium: apt-get install chromium")
-    with Served(given.program) as address, Page(browser, address) as page:
+    program = os.path.abspath(given.program)
+    with Served(program) as address, Page(browser, address) as page, tempfile.TemporaryDirectory() as place:
         if given.shots:
             shots(page, given.shots)
-    return 0
+            return 0
+        folder = Path(place)
+        page.size(1440, 900)
+        cases = [*keys(page), *tabs(page), *buttons(page), *shows(page), *slow(page), *looks(page, address), *ends(page, program, folder), *quiet(page)]
+        cases += [*server(address), *terminal(program, folder), *bad(program, folder)]
+    return tell(cases)
 
 
 if __name__ == "__main__":

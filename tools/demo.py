@@ -142,7 +142,11 @@ def page_of(moves: Iterable[Move], is_slow: bool) -> bytes:
 
 def serve(given: argparse.Namespace, moves: Sequence[Move], is_slow: bool) -> None:
     """Serves the page until Ctrl-C."""
-    with Server(given.port, Table(given.program), page_of(moves, is_slow)) as server:
+    try:
+        server = Server(given.port, Table(given.program), page_of(moves, is_slow))
+    except OSError as why:
+        raise BadMove(f"port {given.port} can't be used: {why.strerror}; choose another --port") from None
+    with server:
         where = f"http://127.0.0.1:{server.server_address[1]}/"
         print(f"You are the network: {where}\nCtrl-C ends it.", flush=True)
         if not given.no_browser and (sys.platform == "darwin" or os.environ.get("DISPLAY") or os.environ.get("WAYLAND_DISPLAY")):
