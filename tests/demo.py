@@ -1,5 +1,5 @@
 #!/usr/bin/env python3
-"""tools/demo.py in a headless Chromium and in a terminal: `tests/demo.py [PROGRAM] [--shots FOLDER]`.
+"""tools/demo.py in a headless Chromium and in a terminal: `tests/demo.py [PROGRAM] [--shots FOLDER] [--picture FILE]`.
 
 - Each key and each button is pressed, as a reader does it; the move that it makes is compared. By Tab and Enter alone an
   order is made and delivered, and wherever the focus stops it can be seen.
@@ -8,7 +8,7 @@
 - At six widths, light and dark: nothing is cut off or hides another, and texts have enough contrast.
 - The server refuses other hosts, other origins and what isn't a move. The terminal plays the same game.
 
-With --shots only screenshots are written. One line a case, and then how many hold. Status 1 if one fails, 77 if there is
+With --shots or --picture only screenshots are written. One line a case, and then how many hold. Status 1 if one fails, 77 if there is
 no Chromium.
 
 In tests/all: PROGRAM, 300 s."""
@@ -184,6 +184,9 @@ LAYOUT = """(() => {
   for (const svg of [...document.querySelectorAll(".lane svg")].filter(there)) {
     const frame = svg.getBoundingClientRect();
     for (const it of svg.querySelectorAll("text")) { const b = it.getBoundingClientRect(); if (b.left < frame.left - 1 || b.right > frame.right + 1) wrong.push(`${it.textContent} leaves its lane`); }
+    const words = [...svg.querySelectorAll("text")].map((it) => [it.textContent, it.getBoundingClientRect()]);
+    words.forEach(([a, p], i) => words.slice(i + 1).forEach(([b, q]) => {
+      if (p.left < q.right - 2 && q.left < p.right - 2 && p.top < q.bottom - 3 && q.top < p.bottom - 3) wrong.push(`${a} hides ${b}`); }));
   }
   return wrong;
 })()"""
@@ -474,6 +477,12 @@ def shots(page: Page, folder: Path) -> None:
                 page.value(f"become(() => SHOWS[{place}])")
                 page.settle()
                 page.shot(folder / f"{width}-{scheme}-2-show{place}.png")
+            page.value("become(() => ['order', 'twice dispenser', 'hold client', 'delay client', 'kill client', 'start client', 'order', 'kill dispenser'])")
+            page.settle()
+            page.shot(folder / f"{width}-{scheme}-5-held.png")
+            page.value("become(() => ['order', 'lose dispenser', 'wait 10000', 'wait 10000', 'order', 'kill client', 'start client', 'order'])")
+            page.settle()
+            page.shot(folder / f"{width}-{scheme}-6-unsure.png")
             page.value("become(() => SHOWS[0].slice(0, 6))")
             page.settle()
             page.shot(folder / f"{width}-{scheme}-3-middle.png")
@@ -484,18 +493,31 @@ def shots(page: Page, folder: Path) -> None:
             page.shot(folder / f"{width}-{scheme}-4-end.png")
 
 
+def picture(page: Page, path: Path) -> None:
+    """The picture of README: a dispenser that was killed after it poured."""
+    page.size(1260, 880)
+    page.open()
+    page.value("become(() => SHOWS[1].slice(0, -1))")
+    page.settle()
+    page.shot(path)
+
+
 def main() -> int:
     reads = argparse.ArgumentParser()
     reads.add_argument("program", nargs="?", default=str(PROGRAM))
-    reads.add_argument("--shots", type=Path)
+    reads.add_argument("--shots", type=Path, metavar="FOLDER", help="write screenshots there, and test nothing")
+    reads.add_argument("--picture", type=Path, metavar="FILE", help="write the picture of the pages there, and test nothing")
     given = reads.parse_args()
     browser = next((found for it in BROWSERS if (found := shutil.which(it))), None)
     if not browser:
         skip("there is no Chromium: apt-get install chromium")
     program = os.path.abspath(given.program)
     with Served(program) as address, Page(browser, address) as page, tempfile.TemporaryDirectory() as place:
-        if given.shots:
-            shots(page, given.shots)
+        if given.shots or given.picture:
+            if given.shots:
+                shots(page, given.shots)
+            if given.picture:
+                picture(page, given.picture)
             return 0
         folder = Path(place)
         page.size(1440, 900)
