@@ -3,7 +3,8 @@
 
 - chance, search: GAMES (200) games by chance against Delta-t, and half as many of the directed search, never win.
 - http, keys, coap: the same search against each model wins, within SECONDS.
-- fair: without kills it doesn't win against keys and CoAP, and a packet that arrives twice is poured once by each model.
+- fair: without kills it doesn't win against keys and CoAP, and a packet that arrives twice is poured once by each
+  model.
 - slow: a network that holds a packet beyond EXCHANGE_LIFETIME wins against CoAP without a kill.
 - judge: a program whose log has an acceptance twice is found out by the audit, and one that reads twice by the count.
 - player: a program plays; its game is kept as a schedule that replays to a log without a flaw.
@@ -11,12 +12,13 @@
 
 One line a case, and then how many hold. Ends with 1 if one fails.
 
-In tests/all: PROGRAM, 300 s."""
+In tests/all: PROGRAM, 600 s."""
 import os
 import subprocess
 import sys
 import tempfile
 import time
+from functools import partial
 from pathlib import Path
 
 from lib import TOP, program, tell
@@ -41,7 +43,9 @@ if [ "$1" = replay ]; then {program} replay | sed '/^[0-9]* 2 {word} 1:10/{{p;}}
 
 
 def run(*words: str) -> "subprocess.CompletedProcess[str]":
-    return subprocess.run([sys.executable, str(TOOL), *words], capture_output=True, text=True, timeout=280 + LONG, check=False)
+    return subprocess.run(
+        [sys.executable, str(TOOL), *words], capture_output=True, text=True, timeout=280 + LONG, check=False
+    )
 
 
 def never(path: str, games: int) -> list[Case]:
@@ -71,12 +75,24 @@ def first_wins(name: str, rules: Rules, games: int) -> int:
     return next((it + 1 for it in range(games) if search.play().won), 0)
 
 
+def twice_after(span: int, line: str, number: int) -> Answer:
+    """A network that delivers each packet twice."""
+    del line, number
+    return Answer((50, span))
+
+
 def fair() -> list[Case]:
     cases = []
     for name in RIVALS:
         won = first_wins(name, Rules(kills=False), 1000)
-        cases.append((f"{name} without kills", (won > 0) == (name == "http"), f"won in game {won}" if won else "1,000 games, not won"))
-        twice = [contest.play(name, "", lambda line, number, span=span: Answer((50, span))) for span in (50, 500)]
+        cases.append(
+            (
+                f"{name} without kills",
+                (won > 0) == (name == "http"),
+                f"won in game {won}" if won else "1,000 games, not won",
+            )
+        )
+        twice = [contest.play(name, "", partial(twice_after, span)) for span in (50, 500)]
         cups = {cup for it in twice for cup in it.summary.split("; ")[1:2]}
         cases.append((f"{name} twice", cups == {"3 cups"} and not any(it.won for it in twice), ", ".join(sorted(cups))))
     slow = Rules(contest.SLOW, kills=False)
@@ -112,19 +128,34 @@ def player(path: str) -> list[Case]:
         ran = run("--keep", kept, "--program", path, "--", *LOSE_ANSWERS)
         log = subprocess.run([path, "replay"], input=Path(kept).read_bytes(), capture_output=True, check=False)
         audit = subprocess.run([path, "audit"], input=log.stdout, capture_output=True, check=False)
-        good = ran.returncode == 0 and "3 orders: 3 unsure; 3 cups; audit yes" in ran.stdout and log.returncode == 0 and audit.stdout == b"audit yes\n"
+        good = (
+            ran.returncode == 0
+            and "3 orders: 3 unsure; 3 cups; audit yes" in ran.stdout
+            and log.returncode == 0
+            and audit.stdout == b"audit yes\n"
+        )
         cases.append(("player", good, ran.stdout.splitlines()[-2] if ran.stdout else ran.stderr))
     ran = run("--against", "http", "--", *LOSE_ANSWERS)
-    cases.append(("player against http", ran.returncode == 1 and "the network wins" in ran.stdout, ran.stdout.splitlines()[-1] if ran.stdout else ran.stderr))
+    cases.append(
+        (
+            "player against http",
+            ran.returncode == 1 and "the network wins" in ran.stdout,
+            ran.stdout.splitlines()[-1] if ran.stdout else ran.stderr,
+        )
+    )
     return cases
 
 
 def bad(path: str) -> list[Case]:
     http = ["--against", "http", "--"]
-    cases = [
+    cases: list[tuple[str, list[str], str]] = [
         ("word", [*http, "sh", "-c", "while read it; do echo maybe; done"], "the answer is 'maybe'; it must be pass"),
         ("span", [*http, "sh", "-c", "while read it; do echo hold 5001; done"], "for at most 5000 ms"),
-        ("no kills", ["--no-kills", *http, "sh", "-c", "while read it; do echo lose kill client; done"], "doesn't kill"),
+        (
+            "no kills",
+            ["--no-kills", *http, "sh", "-c", "while read it; do echo lose kill client; done"],
+            "doesn't kill",
+        ),
         ("ends", [*http, "true"], "true "),
         ("after one", [*http, "sh", "-c", "read it; echo pass"], "it must"),
         ("silent", [*http, "sleep", "30"], "gave no answer"),
@@ -141,7 +172,13 @@ def bad(path: str) -> list[Case]:
     for name, words, want in cases:
         ran = run(*words)
         clean = "Traceback" not in ran.stderr
-        told.append((f"bad {name}", ran.returncode == 2 and want in ran.stderr and clean, "" if want in ran.stderr else ran.stderr[-300:]))
+        told.append(
+            (
+                f"bad {name}",
+                ran.returncode == 2 and want in ran.stderr and clean,
+                "" if want in ran.stderr else ran.stderr[-300:],
+            )
+        )
     return told
 
 
@@ -150,9 +187,17 @@ def rules_kept() -> list[Case]:
     network = contest.random_network(5, Rules())
     lane = contest.lane_of("deltat", program())
     result = Contest(lane, network).run()
-    log = subprocess.run([program(), "replay"], input=result.schedule.encode(), capture_output=True, check=True).stdout.decode()
+    log = subprocess.run(
+        [program(), "replay"], input=result.schedule.encode(), capture_output=True, check=True
+    ).stdout.decode()
     puts = sum(" put " in line for line in log.splitlines())
-    return [("schedule", puts == len(lane.packets) == len(result.moves), f"{puts} packets left, {len(result.moves)} were asked for")]
+    return [
+        (
+            "schedule",
+            puts == len(lane.packets) == len(result.moves),
+            f"{puts} packets left, {len(result.moves)} were asked for",
+        )
+    ]
 
 
 def main() -> int:

@@ -9,14 +9,15 @@ A client orders three cups from a dispenser, one each 8 s. For each packet that 
 
     NUMBER MOMENT FROM TO WHAT
 
-and answers with a line: `pass`, `lose`, `hold MS` (the packet arrives MS ms after it left) or `twice MS` (it arrives, and
-once more MS ms after it left). `kill client` or `kill dispenser` may follow, and then the ms for which the node is down
-(100): it is killed when the packet has arrived, or at once if the packet is lost. A packet is held for at most 5,000 ms.
+and answers with a line: `pass`, `lose`, `hold MS` (the packet arrives MS ms after it left) or `twice MS` (it arrives,
+and once more MS ms after it left). `kill client` or `kill dispenser` may follow, and then the ms for which the node
+is down (100): it is killed when the packet has arrived, or at once if the packet is lost. A packet is held for at
+most 5,000 ms.
 
-LANE is deltat (two nodes that `deltat replay` runs; the judge is `deltat audit`, and each order is counted too), http (with
-retries), keys (HTTP with keys in memory) or coap (confirmable messages); the last three are models. With --slow the network
-may hold packets of a model for 400 s. Of Delta-t that would break a premise, and a replay refuses it. With --no-kills it
-can't kill.
+LANE is deltat (two nodes that `deltat replay` runs; the judge is `deltat audit`, and each order is counted too), http
+(with retries), keys (HTTP with keys in memory) or coap (confirmable messages); the last three are models. With --slow
+the network may hold packets of a model for 400 s. Of Delta-t that would break a premise, and a replay refuses it.
+With --no-kills it can't kill.
 
 Ends with 0 if the network never won, with 1 if it won, and with 2 if something is wrong."""
 import argparse
@@ -65,7 +66,9 @@ class Player:
         try:
             self.process.stdin.write(f"{line}\n".encode())
         except OSError:
-            raise Wrong(f"{shlex.join(self.words)} ended before packet {line!r}; it must answer each line until its input ends") from None
+            raise Wrong(
+                f"{shlex.join(self.words)} ended before packet {line!r}; it must answer each line until its input ends"
+            ) from None
         return self.rules.read(self.read_line(line))
 
     def read_line(self, asked: str) -> str:
@@ -75,15 +78,19 @@ class Player:
         while b"\n" not in self.pending:
             waits = until - time.monotonic()
             if waits <= 0 or not select.select([where], [], [], waits)[0]:
-                raise Wrong(f"{shlex.join(self.words)} gave no answer to {asked!r} in {PATIENCE} s; write a line for each packet, and flush it")
+                late = f"{shlex.join(self.words)} gave no answer to {asked!r} in {PATIENCE} s"
+                raise Wrong(f"{late}; write a line for each packet, and flush it")
             octets = os.read(where, 4096)
             if not octets or len(self.pending) > LONGEST:
-                raise Wrong(f"{shlex.join(self.words)} gave no answer to {asked!r}; it must write a line for each packet until its input ends")
+                none = f"{shlex.join(self.words)} gave no answer to {asked!r}"
+                raise Wrong(f"{none}; it must write a line for each packet until its input ends")
             self.pending += octets
         line, self.pending = self.pending.split(b"\n", 1)
         return line.decode("utf-8", "replace").strip()
 
-    def __exit__(self, kind: type[BaseException] | None, why: BaseException | None, where: TracebackType | None) -> None:
+    def __exit__(
+        self, kind: type[BaseException] | None, why: BaseException | None, where: TracebackType | None
+    ) -> None:
         assert self.process.stdin and self.process.stdout
         try:
             self.process.stdin.close()
@@ -125,7 +132,9 @@ def games_of(task: Task) -> list[tuple[int, Result]]:
 def tasks_of(given: argparse.Namespace, rules: Rules) -> Iterator[Task]:
     games = given.search or given.random
     for first in range(0, games, SHARE):
-        yield Task(given.against, given.program, rules, given.seed + first, min(SHARE, games - first), bool(given.search))
+        yield Task(
+            given.against, given.program, rules, given.seed + first, min(SHARE, games - first), bool(given.search)
+        )
 
 
 def show(result: Result) -> None:
@@ -174,21 +183,44 @@ def play_one(given: argparse.Namespace, rules: Rules) -> int:
 
 def arguments() -> argparse.Namespace:
     it = argparse.ArgumentParser(description=__doc__, formatter_class=argparse.RawDescriptionHelpFormatter)
-    it.add_argument("player", nargs="*", metavar="PROGRAM", help="the program that plays the network, and its words; put -- before it")
-    it.add_argument("--against", choices=contest.LANES, default="deltat", metavar="LANE", help="deltat, http, keys or coap (deltat)")
-    it.add_argument("--random", type=number(1, 1_000_000, int), default=0, metavar="GAMES", help="play so many games by chance")
-    it.add_argument("--search", type=number(1, 1_000_000, int), default=0, metavar="GAMES", help="play so many games by a directed search")
+    it.add_argument(
+        "player",
+        nargs="*",
+        metavar="PROGRAM",
+        help="the program that plays the network, and its words; put -- before it",
+    )
+    it.add_argument(
+        "--against", choices=contest.LANES, default="deltat", metavar="LANE", help="deltat, http, keys or coap (deltat)"
+    )
+    it.add_argument(
+        "--random", type=number(1, 1_000_000, int), default=0, metavar="GAMES", help="play so many games by chance"
+    )
+    it.add_argument(
+        "--search",
+        type=number(1, 1_000_000, int),
+        default=0,
+        metavar="GAMES",
+        help="play so many games by a directed search",
+    )
     it.add_argument("--seed", type=number(0, 1 << 31, int), default=1, metavar="N", help="where chance begins (1)")
     it.add_argument("--slow", action="store_true", help="the network may hold packets of a model for 400 s")
     it.add_argument("--no-kills", action="store_true", help="the network may not kill")
-    it.add_argument("--jobs", type=number(1, 256, int), default=os.cpu_count() or 1, metavar="N", help="processes (one for each processor)")
+    it.add_argument(
+        "--jobs",
+        type=number(1, 256, int),
+        default=os.cpu_count() or 1,
+        metavar="N",
+        help="processes (one for each processor)",
+    )
     it.add_argument("--keep", metavar="FILE", help="write the schedule of a game against deltat")
     it.add_argument("--program", default=default_program(), metavar="PATH", help="the program deltat (%(default)s)")
     given = it.parse_args()
     if sum(map(bool, (given.player, given.random, given.search))) != 1:
         it.error("give one of PROGRAM, --random and --search")
     if given.slow and given.against == "deltat":
-        it.error("--slow breaks a premise of deltat, that a link is no slower than its charge; play against http, keys or coap")
+        it.error(
+            "--slow breaks a premise of deltat, that a link is no slower than its charge; play against another lane"
+        )
     if given.keep and (given.against != "deltat" or not given.player):
         it.error("--keep is for a program against deltat: a model has no schedule")
     return given

@@ -1,12 +1,13 @@
 #!/usr/bin/env python3
-"""You are the network: you lose, repeat, hold back and deliver the packets between a client and a dispenser, and kill them.
+"""You are the network: you lose, repeat, hold back and deliver the packets between a client and a dispenser, and kill
+them.
 
     tools/demo.py [SCHEDULE] [--port N] [--no-browser]
     tools/demo.py [SCHEDULE] --terminal
 
-The client orders cups. Each of your moves is done to four protocols at once: Delta-t, as two nodes that `deltat replay`
-runs, and models of HTTP with retries, HTTP with keys in memory and CoAP's confirmable messages. At the end there are the
-log, the verdict of `deltat audit`, and the schedule: keep it, replay it, or give it to this tool again.
+The client orders cups. Each of your moves is done to four protocols at once: Delta-t, as two nodes that `deltat
+replay` runs, and models of HTTP with retries, HTTP with keys in memory and CoAP's confirmable messages. At the end
+there are the log, the verdict of `deltat audit`, and the schedule: keep it, replay it, or give it to this tool again.
 
 The page is served on 127.0.0.1, until Ctrl-C. Ends with 2 if something is wrong."""
 import argparse
@@ -28,8 +29,10 @@ from deltat_tools.replayed import Broken, default_program
 HERE = Path(__file__).resolve().parent
 PLACE = '<script id="start" type="application/json">{}</script>'
 MOST_BODY = 65_536
-POLICY = ("default-src 'none'; style-src 'unsafe-inline'; script-src 'unsafe-inline'; connect-src 'self'; "
-          "base-uri 'none'; form-action 'none'; frame-ancestors 'none'")
+POLICY = (
+    "default-src 'none'; style-src 'unsafe-inline'; script-src 'unsafe-inline'; connect-src 'self'; "
+    "base-uri 'none'; form-action 'none'; frame-ancestors 'none'"
+)
 
 
 class Table:
@@ -44,10 +47,10 @@ class Table:
         """What the page shows after these moves."""
         with self.lock:
             done = [str(it) for it in self.game.moves]
-            if done != list(texts[:len(done)]) or self.game.is_slow != is_slow:
+            if done != list(texts[: len(done)]) or self.game.is_slow != is_slow:
                 self.game, done = Game(self.program, is_slow), []
             try:
-                for text in texts[len(done):]:
+                for text in texts[len(done) :]:
                     self.game.do(read_move(text))
                 return self.game.view()
             except BaseException:
@@ -68,8 +71,13 @@ class Handler(BaseHTTPRequestHandler):
 
     def reply(self, status: int, kind: str, octets: bytes) -> None:
         self.send_response(status)
-        for name, value in (("Content-Type", kind), ("Content-Length", str(len(octets))), ("Cache-Control", "no-store"),
-                            ("Content-Security-Policy", POLICY), ("X-Content-Type-Options", "nosniff")):
+        for name, value in (
+            ("Content-Type", kind),
+            ("Content-Length", str(len(octets))),
+            ("Cache-Control", "no-store"),
+            ("Content-Security-Policy", POLICY),
+            ("X-Content-Type-Options", "nosniff"),
+        ):
             self.send_header(name, value)
         self.end_headers()
         self.wfile.write(octets)
@@ -149,7 +157,9 @@ def serve(given: argparse.Namespace, moves: Sequence[Move], is_slow: bool) -> No
     with server:
         where = f"http://127.0.0.1:{server.server_address[1]}/"
         print(f"You are the network: {where}\nCtrl-C ends it.", flush=True)
-        if not given.no_browser and (sys.platform == "darwin" or os.environ.get("DISPLAY") or os.environ.get("WAYLAND_DISPLAY")):
+        if not given.no_browser and (
+            sys.platform == "darwin" or os.environ.get("DISPLAY") or os.environ.get("WAYLAND_DISPLAY")
+        ):
             webbrowser.open(where)
         try:
             server.serve_forever()
@@ -159,7 +169,16 @@ def serve(given: argparse.Namespace, moves: Sequence[Move], is_slow: bool) -> No
 
 # the terminal
 
-LETTERS = {"d": "deliver", "l": "lose", "t": "twice", "h": "hold", "y": "delay", "r": "release", "k": "kill", "s": "start"}
+LETTERS = {
+    "d": "deliver",
+    "l": "lose",
+    "t": "twice",
+    "h": "hold",
+    "y": "delay",
+    "r": "release",
+    "k": "kill",
+    "s": "start",
+}
 HELP = """o           order a cup            w, w 10     wait 1 s, 10 s
 d> d<       deliver the next packet to the dispenser, to the client
 l> t> h>    lose it; deliver it and keep a copy; hold it back
@@ -187,12 +206,21 @@ def shown(game: Game) -> str:
     lines = [f"{game.now / 1000:>6.1f} s               {'to the dispenser >':<30}{'< to the client':<30}cups of orders"]
     to_client = dict(hands_of(game, Side.CLIENT))
     for hands, (name, items) in zip(game.hands.values(), hands_of(game, Side.DISPENSER)):
-        texts = [", ".join(it.packet.text + {"held": " (held)", "delayed": " (delayed)"}.get(it.status, "") for it in both) or "-"
-                 for both in (items, to_client[name])]
+        texts = [
+            ", ".join(it.packet.text + {"held": " (held)", "delayed": " (delayed)"}.get(it.status, "") for it in both)
+            or "-"
+            for both in (items, to_client[name])
+        ]
         lane = hands.lane
-        cups = ", ".join(f"{order}: {count}{'!' * (count > 1)} {lane.orders[order].name.lower()}" for order, count in lane.cups.items())
-        down = "".join(f" [{side.word} {'is silent' if lane.running[side] else 'is down'}]" for side in Side
-                       if not lane.running[side] or lane.silent_until(side) > lane.now)
+        cups = ", ".join(
+            f"{order}: {count}{'!' * (count > 1)} {lane.orders[order].name.lower()}"
+            for order, count in lane.cups.items()
+        )
+        down = "".join(
+            f" [{side.word} {'is silent' if lane.running[side] else 'is down'}]"
+            for side in Side
+            if not lane.running[side] or lane.silent_until(side) > lane.now
+        )
         lines.append(f"{name:<24}{texts[0][:29]:<30}{texts[1][:29]:<30}{cups or '-'}{down}")
     return "\n".join(lines)
 
@@ -201,14 +229,16 @@ def news(game: Game, seen: dict[str, int]) -> str:
     """What the nodes did since the last time."""
     lines = []
     for name, hands in game.hands.items():
-        lines += [f"  {hands.lane.name}: {it.side.word}: {it.text}" for it in hands.lane.marks[seen.get(name, 0):]]
+        lines += [f"  {hands.lane.name}: {it.side.word}: {it.text}" for it in hands.lane.marks[seen.get(name, 0) :]]
         seen[name] = len(hands.lane.marks)
     return "".join(f"{line}\n" for line in lines)
 
 
 def ended(game: Game) -> str:
     """What a game ends with."""
-    return f"The log:\n{game.replayed.log}\nThe schedule:\n{game.replayed.schedule()}\nThe verdict of `deltat audit`: {game.replayed.verdict()}"
+    verdict = game.replayed.verdict()
+    log, schedule = game.replayed.log, game.replayed.schedule()
+    return f"The log:\n{log}\nThe schedule:\n{schedule}\nThe verdict of `deltat audit`: {verdict}"
 
 
 class Terminal:
@@ -262,11 +292,17 @@ def prompted() -> Iterable[str]:
 
 def arguments() -> argparse.Namespace:
     it = argparse.ArgumentParser(description=__doc__, formatter_class=argparse.RawDescriptionHelpFormatter)
-    it.add_argument("schedule", nargs="?", metavar="SCHEDULE", help="a schedule that this tool made: the game begins with its moves")
+    it.add_argument(
+        "schedule", nargs="?", metavar="SCHEDULE", help="a schedule that this tool made: the game begins with its moves"
+    )
     it.add_argument("--terminal", action="store_true", help="play in this terminal")
-    it.add_argument("--port", type=number(0, 65_535, int), default=0, metavar="N", help="the port of the page (one that is free)")
+    it.add_argument(
+        "--port", type=number(0, 65_535, int), default=0, metavar="N", help="the port of the page (one that is free)"
+    )
     it.add_argument("--no-browser", action="store_true", help="print the page's address and open nothing")
-    it.add_argument("--slow", action="store_true", help="the network may hold packets of the models for longer than 5 s")
+    it.add_argument(
+        "--slow", action="store_true", help="the network may hold packets of the models for longer than 5 s"
+    )
     it.add_argument("--program", default=default_program(), metavar="PATH", help="the program deltat (%(default)s)")
     return it.parse_args()
 
@@ -274,7 +310,9 @@ def arguments() -> argparse.Namespace:
 def main() -> int:
     given = arguments()
     try:
-        moves, is_slow = read_moves(Path(given.schedule).read_text(encoding="utf-8")) if given.schedule else ([], given.slow)
+        moves, is_slow = (
+            read_moves(Path(given.schedule).read_text(encoding="utf-8")) if given.schedule else ([], given.slow)
+        )
         play(given.program, moves, is_slow).view()
         if given.terminal:
             Terminal(given.program, moves, is_slow).run(prompted() if sys.stdin.isatty() else sys.stdin)

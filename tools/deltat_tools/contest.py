@@ -34,15 +34,21 @@ class Wrong(Exception):
 
 @dataclass(frozen=True)
 class Answer:
-    """What the network does with a packet: after how many ms it arrives, each time; and which node is killed right after
-    the first of these, or at once if there is none, and started again after how many ms."""
+    """What the network does with a packet: after how many ms it arrives, each time; and which node is killed right
+    after the first of these, or at once if there is none, and started again after how many ms."""
 
     arrivals: tuple[int, ...] = (DELAY,)
     killed: Side | None = None
     down: int = DOWN
 
     def __str__(self) -> str:
-        words = "lose" if not self.arrivals else "pass" if self.arrivals == (DELAY,) else ("hold", "twice")[len(self.arrivals) - 1]
+        words = (
+            "lose"
+            if not self.arrivals
+            else "pass"
+            if self.arrivals == (DELAY,)
+            else ("hold", "twice")[len(self.arrivals) - 1]
+        )
         span = f" {self.arrivals[-1]}" if words in ("hold", "twice") else ""
         return words + span + (f" kill {self.killed.word} {self.down}" if self.killed else "")
 
@@ -56,7 +62,9 @@ class Rules:
 
     def read(self, line: str) -> Answer:
         """The answer in a line."""
-        found = re.fullmatch(r"(?:(pass|lose)|(hold|twice) ([0-9]{1,9}))(?: kill (client|dispenser)(?: ([0-9]{1,9}))?)?", line)
+        found = re.fullmatch(
+            r"(?:(pass|lose)|(hold|twice) ([0-9]{1,9}))(?: kill (client|dispenser)(?: ([0-9]{1,9}))?)?", line
+        )
         if not found:
             raise Wrong(f"the answer is {line[:60]!r}; it must be {ANSWER}")
         plain, word, wait, side, down = found.groups()
@@ -85,7 +93,7 @@ class Event:
 
 @dataclass(frozen=True)
 class Result:
-    """How a game ended: each packet with its answer, how the network has won or nothing, and near misses by their kinds."""
+    """How a game ended: each packet with its answer, how the network has won or nothing, and how near it came."""
 
     moves: Sequence[tuple[str, Answer]]
     won: str
@@ -126,7 +134,8 @@ class Contest:
             self.follow(packet, answer)
 
     def follow(self, packet: Packet, answer: Answer) -> None:
-        """What the answer makes happen. A packet that left a while ago, as a tick showed only now, arrives now at the earliest."""
+        """What the answer makes happen. A packet that left a while ago, as a tick showed only now, arrives now at the
+        earliest."""
         self.left[packet.number] = len(answer.arrivals)
         moments = [max(self.lane.now, packet.put + it) for it in answer.arrivals]
         for moment in moments:
@@ -174,15 +183,23 @@ class Contest:
             verdict, schedule = lane.verdict(), lane.schedule()
             if verdict != "audit yes":
                 won = won or f"the audit says: {verdict}"
-        states = [f"{list(lane.orders.values()).count(state)} {state.name.lower()}" for state in dict.fromkeys(lane.orders.values())]
+        states = [
+            f"{list(lane.orders.values()).count(state)} {state.name.lower()}"
+            for state in dict.fromkeys(lane.orders.values())
+        ]
         cups = sum(lane.cups.values())
-        text = f"{len(lane.orders)} orders: {', '.join(states) or 'none'}; {cups} cups" + (f"; {verdict}" if verdict else "")
+        text = f"{len(lane.orders)} orders: {', '.join(states) or 'none'}; {cups} cups" + (
+            f"; {verdict}" if verdict else ""
+        )
         return Result(self.moves, won, text, self.near(), schedule)
 
     def near(self) -> int:
-        """How near the network came: packets of the client that a dispenser received beyond those that were poured, by the
-        kinds of what it did, and its starts after a cup."""
-        kinds = [it.kind for it in self.lane.marks if it.side is Side.DISPENSER and it.kind in (Kind.SEEN, Kind.IGNORED, Kind.RESET, Kind.STARTED)]
+        """How near the network came: the kinds of what the dispenser did beside pouring, and how often it did that."""
+        kinds = [
+            it.kind
+            for it in self.lane.marks
+            if it.side is Side.DISPENSER and it.kind in (Kind.SEEN, Kind.IGNORED, Kind.RESET, Kind.STARTED)
+        ]
         return 4 * len(set(kinds)) + min(len(kinds), 12)
 
 
@@ -231,8 +248,8 @@ def random_game(name: str, program: str, seed: int, rules: Rules) -> Result:
 
 
 class Search:
-    """A directed search: it changes a few answers of the best game so far, keeps what brings the network no farther from
-    its goal, and begins anew after STALE games without progress."""
+    """A directed search: it changes a few answers of the best game so far, and keeps what brings the network no
+    farther from its goal. After STALE games without progress it begins anew."""
 
     STALE = 40
 

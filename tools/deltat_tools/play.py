@@ -1,9 +1,10 @@
-"""The network in a reader's hands: what `tools/demo.py` plays. Each move is done to all lanes at once, so that a loss or a
-kill means the same to each protocol.
+"""The network in a reader's hands: what `tools/demo.py` plays. Each move is done to all lanes at once, so that a loss
+or a kill means the same to each protocol.
 
-A packet that leaves a node is in the network's hands until a move delivers it or loses it. A move takes STEP ms. A packet
-that is LIMIT ms old is gone: a link of Delta-t is no slower than its charge, which is a premise. If the network is slow,
-that holds for Delta-t only, and the other lanes' packets may be held for as long as the reader likes."""
+A packet that leaves a node is in the network's hands until a move delivers it or loses it. A move takes STEP ms. A
+packet that is LIMIT ms old is gone: a link of Delta-t is no slower than its charge, which is a premise. If the
+network is slow, that holds for Delta-t only, and the other lanes' packets may be held for as long as the reader
+likes."""
 import re
 from collections.abc import Iterator, Sequence
 from dataclasses import dataclass
@@ -20,7 +21,10 @@ DELAY = 1_000
 MOST_MOVES, MOST_WAIT, LONGEST = 400, 300_000, 3_600_000
 ON_PACKETS = ("deliver", "lose", "twice", "hold", "delay", "release")
 ON_NODES = ("kill", "start")
-MOVES = "order, wait MS, kill or start SIDE, or one of deliver, lose, twice, hold, delay, release and a SIDE; SIDE is client or dispenser"
+MOVES = (
+    "order, wait MS, kill or start SIDE, or one of deliver, lose, twice, hold, delay, release and a SIDE; "
+    "SIDE is client or dispenser"
+)
 PREFIX, SLOW = "# move ", "# the network is slow"
 
 
@@ -59,7 +63,7 @@ def read_move(text: str) -> Move:
 def read_moves(schedule: str) -> tuple[list[Move], bool]:
     """The moves that a schedule of a game has as comments, and whether its network was slow."""
     lines = schedule.splitlines()
-    moves = [read_move(line[len(PREFIX):]) for line in lines if line.startswith(PREFIX)]
+    moves = [read_move(line[len(PREFIX) :]) for line in lines if line.startswith(PREFIX)]
     if not moves:
         raise BadMove(f"the schedule has no line that begins with {PREFIX.strip()!r}; give one that this tool made")
     return moves, SLOW in lines
@@ -97,7 +101,7 @@ class Hands:
 
     def take(self) -> None:
         """Takes the packets that left since the last time."""
-        for packet in self.lane.packets[self.seen:]:
+        for packet in self.lane.packets[self.seen :]:
             self.items.append(Item(packet, self.made))
             self.made += 1
         self.seen = len(self.lane.packets)
@@ -165,7 +169,10 @@ class Game:
         others: dict[str, Lane] = {name: make() for name, make in RIVALS.items()}
         limit = None if is_slow else LIMIT
         self.is_slow = is_slow
-        self.hands = {"deltat": Hands(self.replayed, LIMIT), **{name: Hands(lane, limit) for name, lane in others.items()}}
+        self.hands = {
+            "deltat": Hands(self.replayed, LIMIT),
+            **{name: Hands(lane, limit) for name, lane in others.items()},
+        }
         self.moves: list[Move] = []
         self.now = self.ordered = 0
         if is_slow:
@@ -217,11 +224,21 @@ class Game:
             "quiet": lane.quiet_time,
             "silent": {side.word: lane.silent_until(side) for side in Side if lane.silent_until(side) > lane.now},
             "packets": [{"to": it.to.word, "text": it.text, "put": it.put, "order": it.order} for it in lane.packets],
-            "hands": [{"packet": it.packet.number, "status": it.status, "due": it.due, "copy": it.is_copy} for it in hands.items],
-            "fates": [{"packet": it.packet, "moment": it.moment, "word": it.word, "copy": it.is_copy} for it in hands.fates],
-            "marks": [{"moment": it.moment, "side": it.side.word, "kind": it.kind.value, "text": it.text, "order": it.order} for it in lane.marks],
-            "orders": [{"order": order, "state": state.name.lower(), "text": state.value, "cups": lane.cups[order]}
-                       for order, state in lane.orders.items()],
+            "hands": [
+                {"packet": it.packet.number, "status": it.status, "due": it.due, "copy": it.is_copy}
+                for it in hands.items
+            ],
+            "fates": [
+                {"packet": it.packet, "moment": it.moment, "word": it.word, "copy": it.is_copy} for it in hands.fates
+            ],
+            "marks": [
+                {"moment": it.moment, "side": it.side.word, "kind": it.kind.value, "text": it.text, "order": it.order}
+                for it in lane.marks
+            ],
+            "orders": [
+                {"order": order, "state": state.name.lower(), "text": state.value, "cups": lane.cups[order]}
+                for order, state in lane.orders.items()
+            ],
             "fault": lane.fault(),
         }
 

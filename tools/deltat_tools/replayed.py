@@ -1,6 +1,6 @@
-"""The lane of this project: a client and a dispenser over two nodes that `deltat replay` runs. What happens is a schedule;
-after each step the program replays all of it, and its log says what the nodes did. So there is no second copy of the
-protocol here: only the client and the dispenser, which are messages of eight octets."""
+"""The lane of this project: a client and a dispenser over two nodes that `deltat replay` runs. What happens is a
+schedule; after each step the program replays all of it, and its log says what the nodes did. So there is no second
+copy of the protocol here: only the client and the dispenser, which are messages of eight octets."""
 import shutil
 import subprocess
 from pathlib import Path
@@ -40,10 +40,13 @@ def run(program: str, word: str, text: str) -> str:
     try:
         ran = subprocess.run([program, word], input=text.encode(), capture_output=True, check=False, timeout=60)
     except (OSError, subprocess.TimeoutExpired) as why:
-        raise Broken(f"{program} can't be run: {why}; build it (./build), install the package, or give another --program") from None
+        raise Broken(
+            f"{program} can't be run: {why}; build it (./build), install the package, or give another --program"
+        ) from None
     out = ran.stdout.decode("utf-8", "replace")
     if ran.returncode not in (0, 3) or not out:
-        raise Broken(f"{program} {word} ended with {ran.returncode}: {ran.stderr.decode('utf-8', 'replace').strip() or 'nothing was written'}")
+        said = ran.stderr.decode("utf-8", "replace").strip() or "nothing was written"
+        raise Broken(f"{program} {word} ended with {ran.returncode}: {said}")
     if ran.returncode == 3 and word == "replay":
         raise Broken(f"{program} refused the schedule: {out.splitlines()[-1]}")
     return out
@@ -98,7 +101,7 @@ class Replayed(Lane):
         """Replays the schedule, and follows the lines of the log that are new."""
         self.log = run(self.program, "replay", self.schedule())
         lines = [line.split(" ") for line in self.log.splitlines() if not line.startswith(("flow ", "end "))]
-        new, self.lines_read = lines[self.lines_read:], len(lines)
+        new, self.lines_read = lines[self.lines_read :], len(lines)
         now = self.now
         for words in new:
             self.now = int(words[0])

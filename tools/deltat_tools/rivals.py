@@ -2,8 +2,8 @@
 CoAP's confirmable messages. They leave out what would only help the network against them: a connection of TCP is opened
 without packets if the dispenser is running, an acknowledgement is never sent by itself, and nobody forges a packet.
 
-HTTP's client is one as `curl --max-time 3 --retry 3 --retry-all-errors` is. CoAP's rules and times are those of RFC 7252,
-sections 4.2, 4.5 and 4.8, without the random part of ACK_TIMEOUT."""
+HTTP's client is one as `curl --max-time 3 --retry 3 --retry-all-errors` is. CoAP's rules and times are those of RFC
+7252, sections 4.2, 4.5 and 4.8, without the random part of ACK_TIMEOUT."""
 import random
 from dataclasses import dataclass
 
@@ -62,7 +62,9 @@ class Http(Lane):
         if attempt.tries == self.TRIES:
             del self.attempts[attempt.order]
             self.orders[attempt.order] = State.UNKNOWN
-            self.mark(Side.CLIENT, Kind.UNSURE, f"order {attempt.order} has no answer after {self.TRIES} tries", attempt.order)
+            self.mark(
+                Side.CLIENT, Kind.UNSURE, f"order {attempt.order} has no answer after {self.TRIES} tries", attempt.order
+            )
             return
         attempt.tries += 1
         attempt.resend = attempt.deadline = attempt.again = NEVER
