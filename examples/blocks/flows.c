@@ -10,7 +10,7 @@
 #include <stdlib.h>
 #include <string.h>
 
-enum { FIRST_PORT = 1000, MOST_DOUBLED = 5 };
+enum { FIRST_PORT = 1000, MOST_DOUBLED = 5, FLUSHED = 16384 };
 
 void flows_open(struct flows *flows, unsigned count) {
     flows->count = count;
@@ -111,16 +111,20 @@ static void call(struct flows *flows, struct flow *flow) {
     flows->counts.calls++;
     flows->counts.again += flow->tries > 0;
     window_made(&flows->window, weight(flow->part));
+    if (len >= FLUSHED) dt_udp_flush(flows->udp); /* (a node keeps few datagrams for its link) */
 }
 
 static void call_again(struct flows *flows) {
     flows->put_off = 0;
-    for (unsigned i = 0; i < flows->count; i++)
-        if (flows->all[i].part && !flows->all[i].under_way) call(flows, &flows->all[i]);
+    for (unsigned i = 0; i < flows->count; i++) {
+        struct flow *flow = &flows->all[i];
+        if (flow->part == NULL || flow->under_way) continue;
+        if (window_has_room(&flows->window, weight(flow->part))) call(flows, flow);
+        else flows->put_off++;
+    }
 }
 
 void flows_go(struct flows *flows) {
-    size_t unsent = 0;
     if (flows->put_off) call_again(flows);
     while (flows->first && flows->free && window_has_room(&flows->window, weight(flows->first))) {
         struct flow *flow = flows->free;
@@ -129,10 +133,6 @@ void flows_go(struct flows *flows) {
         flows->first = flow->part->next;
         flow->tries = 0;
         call(flows, flow);
-        unsent += weight(flow->part);
-        if (unsent < 32768) continue;
-        dt_udp_flush(flows->udp); /* (a node keeps few datagrams for its link) */
-        unsent = 0;
     }
     dt_udp_flush(flows->udp);
 }
@@ -195,6 +195,7 @@ void flows_ended(struct flows *flows, const struct dt_udp_event *event, flows_do
         flow->tries += flow->tries < UINT8_MAX;
         flows->counts.unsure++;
         flows->put_off++;
+        window_shrink(&flows->window);
         return;
     }
     struct demand *demand = part->demand;

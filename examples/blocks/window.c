@@ -42,6 +42,8 @@ static void learn(struct window *it, int class, double took_us) {
     it->usual_us = it->usual[class];
 }
 
+void window_shrink(struct window *it) { it->octets = it->octets / 2 < LEAST ? LEAST : it->octets / 2; }
+
 static void adapt(struct window *it) {
     double fits = it->octets * (it->usual_us + 1) / (it->usual_us + it->excess_us + 1) + QUEUE;
     double next = it->excess_us > it->longest_us ? it->octets * 2 / 3 : (it->octets + fits) / 2;

@@ -30,4 +30,7 @@ void window_made(struct window *window, size_t octets);
 
 /* A call of so many octets ended. `took_us` is what it took but for the server's own work; negative: it is unknown. */
 void window_ended(struct window *window, size_t octets, uint64_t made_us, uint64_t now_us, double took_us);
+
+/* A call was given up. */
+void window_shrink(struct window *window);
 #endif
