@@ -9,7 +9,8 @@ The server and the gateway are built with the address and undefined-behaviour sa
 - strangers: clients that send what isn't NBD, or half of a request;
 - kills: the server is killed and started again three times while fio writes and verifies; no error;
 - cache: a flush over a server whose machine was started again meanwhile is EIO, once for each connection;
-- left: a client is killed while the server is stopped; the next client at the same gateway writes over its writes;
+- left: a client ends with writes under way, at losses, or while the server is stopped; the next one at the same gateway writes
+  over them, and none of them lands after that;
 - fence: a gateway is stopped, another one takes over, the first one goes on: each of its writes is refused;
 - ext4: a file system is made and filled at losses, with kills of the server; a gateway is killed in the middle of
   that and the next one makes another file system over it; `e2fsck -fn` after each;
@@ -310,18 +311,19 @@ def cache(folder: pathlib.Path) -> str:
 
 
 def left(folder: pathlib.Path) -> str:
-    with world(folder, "left") as it:
+    with world(folder, "left", loss=0.1) as it:
         assert it.server
         count = 256
-        for turn in range(4):
+        for turn in range(8):
             first = Client(it.door()).handshake()
-            it.server.send_signal(signal.SIGSTOP)
+            if turn % 4 == 0:
+                it.server.send_signal(signal.SIGSTOP)
             for number in range(count):
                 first.ask(WRITE, number * 4096, block(1000 + turn, number))
-            time.sleep(0.3 + 0.3 * turn)
+            time.sleep(0.8 if turn % 4 == 0 else 0.01 * turn)
             first.close()
             second = Client(it.door())
-            threading.Timer(0.5, it.server.send_signal, [signal.SIGCONT]).start()
+            threading.Timer(0.3, it.server.send_signal, [signal.SIGCONT]).start()
             second.handshake()
             for number in range(count):
                 second.ask(WRITE, number * 4096, block(turn, number))

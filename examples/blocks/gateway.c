@@ -125,13 +125,16 @@ static bool wait_and_read(struct gateway *gateway) {
     }
     if (poll(fds, MAX_CLIENTS + 3, gateway->flows.put_off ? PUT_OFF_MS : -1) < 0 && errno != EINTR) die_of_errno("poll");
     if (fds[1].revents) take_events(gateway);
+    bool one_ended = false; /* (perhaps before the one at the door came) */
     for (int i = 0; i < MAX_CLIENTS; i++) {
         struct nbd *it = &gateway->clients[i];
+        bool ended = fds[i + 3].revents & (POLLHUP | POLLERR);
         if (it->fd < 0) continue;
+        one_ended = one_ended || ended;
         if (fds[i + 3].revents & POLLIN) nbd_read(it);
-        else if (fds[i + 3].revents & (POLLHUP | POLLERR)) it->is_gone = true;
+        else if (ended) it->is_gone = true;
     }
-    if (fds[2].revents) let_in(gateway);
+    if (fds[2].revents && !one_ended && lets_in(gateway)) let_in(gateway);
     return fds[0].revents == 0;
 }
 
