@@ -312,19 +312,21 @@ def cache(folder: pathlib.Path) -> str:
 
 def left(folder: pathlib.Path) -> str:
     with world(folder, "left", loss=0.1) as it:
-        assert it.server
+        assert it.server and it.lossy
         count = 256
-        for turn in range(8):
+        for turn in range(10):
             first = Client(it.door()).handshake()
-            if turn % 4 == 0:
+            if turn % 5 == 0:
                 it.server.send_signal(signal.SIGSTOP)
+                threading.Timer(0.9, it.server.send_signal, [signal.SIGCONT]).start()
+            else:
+                it.lossy.loss = 1.0
+                threading.Timer(0.04, setattr, [it.lossy, "loss", 0.1]).start()
             for number in range(count):
                 first.ask(WRITE, number * 4096, block(1000 + turn, number))
-            time.sleep(0.8 if turn % 4 == 0 else 0.01 * turn)
+            time.sleep(0.8 if turn % 5 == 0 else 0.0)
             first.close()
-            second = Client(it.door())
-            threading.Timer(0.3, it.server.send_signal, [signal.SIGCONT]).start()
-            second.handshake()
+            second = Client(it.door()).handshake()
             for number in range(count):
                 second.ask(WRITE, number * 4096, block(turn, number))
             errors = sum(second.answer()[1] for _ in range(count))
