@@ -164,14 +164,16 @@ class World:
 @contextlib.contextmanager
 def world(folder: pathlib.Path, name: str, loss: float = 0.0) -> Iterator[World]:
     it = World(folder / name, folder / "sanitized", loss=loss)
+    failure = ""
     try:
         it.start_server()
         it.start_gateway()
         yield it
-    finally:
-        wrong = it.stop()
-    if wrong:
-        raise RuntimeError("; ".join(wrong[:5]))
+    except (RuntimeError, OSError, EOFError, subprocess.SubprocessError) as error:
+        failure = f"{type(error).__name__}: {error}"
+    wrong = it.stop()
+    if failure or wrong:
+        raise RuntimeError("; ".join([failure, *wrong[:8]]))
 
 
 class Client:
