@@ -296,9 +296,10 @@ def panel(it: Seen, moments: dict[str, float], at_y: int, place: Callable[[float
         x = place(moments[name] - moments["killed"])
         parts.append(f'<line x1="{x:.1f}" x2="{x:.1f}" y1="{at_y - 14}" y2="{at_y + height}" class="mark"/>')
         parts.append(f'<text x="{x + (-3 if side else 3):.1f}" y="{at_y - 5}" class="{side}">{word}</text>')
-    for number, at in it.stale.items():
-        parts.append(f'<text x="{place(at) + 4:.1f}" y="{at_y + number * ROW - 3 if number > 4 else at_y + 22}" class="stale">'
-                     f'block {number}: old again, {at - it.flushed:.1f} s after the flush</text>')
+    if it.stale:
+        at, last = min(it.stale.values()), max(it.stale)
+        parts.append(f'<text x="{place(at) + 4:.1f}" y="{at_y + min(last + 4, BLOCKS - 1) * ROW}" class="stale">'
+                     f"{len(it.stale)} of {BLOCKS} old again, {at - it.flushed:.1f} s after the flush</text>")
     return parts
 
 
