@@ -1,35 +1,22 @@
-/* The disk: a file or a device, and threads that read and write it. */
+/* The disk: a file or a device, and the fence. Any thread may do a request; no two threads do barriers. */
 #ifndef BLOCKS_DISK_H
 #define BLOCKS_DISK_H
-#include "deltat_udp.h"
 #include "wire.h"
 
-/* A request that was handed out, and later its answer. */
-struct job {
-    struct job *next;
-    struct dt_token token;
-    struct request request;
-    struct answer answer;
-    uint64_t begun_us;
-    size_t len; /* octets of data: what is written, later what was read */
-    uint8_t octets[]; /* HEADER, and the data */
+struct disk {
+    int fd, state; /* state: the folder of the fence */
+    uint64_t boot, size;
+    uint32_t fence; /* the generation: requests of an older one are refused. Only a barrier changes it */
 };
 
-struct disk;
-
-/* Opens the disk. `state` is the folder of the fence, `boot` what answers carry, or 0: that of this machine. Ends the
- * program if it can't. */
-struct disk *disk_open(const char *path, const char *state, uint64_t boot, long threads);
-
-/* Ends the threads, once they have done what they are at, and syncs. */
+/* Opens the disk. `boot` is what answers carry, or 0: that of this machine. Ends the program if it can't. */
+void disk_open(struct disk *disk, const char *path, const char *state, uint64_t boot);
 void disk_close(struct disk *disk);
 
-/* Gives a job to the threads. It comes back from disk_done when it is done. */
-void disk_submit(struct disk *disk, struct job *job);
+/* Whether all requests before it have to be done when it begins, and none after it may have begun: then the gateway
+ * whose hello is answered knows that nothing of what was handed out before it lands any more. */
+bool disk_is_barrier(const struct request *request);
 
-/* Returns the jobs that are done, the oldest first, or null. */
-struct job *disk_done(struct disk *disk);
-
-/* Returns a descriptor that is readable if jobs are done. */
-int disk_fd(const struct disk *disk);
+/* Does a request, with its data, and fills the answer. */
+void disk_do(struct disk *disk, const struct request *request, uint8_t *data, struct answer *answer);
 #endif

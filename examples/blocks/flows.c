@@ -12,13 +12,19 @@
 
 enum { FIRST_PORT = 1000, MOST_DOUBLED = 5, FLUSHED = 16384 };
 
+static void set_free(struct flows *flows, struct flow *flow) {
+    flow->part = NULL;
+    flow->next = NULL;
+    *(flows->free ? &flows->last_free->next : &flows->free) = flow;
+    flows->last_free = flow;
+}
+
 void flows_open(struct flows *flows, unsigned count) {
     flows->count = count;
-    for (unsigned i = count; i-- > 0;) {
+    for (unsigned i = 0; i < count; i++) {
         struct flow *flow = &flows->all[i];
         flow->port = (uint16_t)(FIRST_PORT + i);
-        flow->next = flows->free;
-        flows->free = flow;
+        set_free(flows, flow);
         if (dt_udp_open_port(flows->udp, flow->port, DT_PORT_CALLER) != DT_OK) die("port %u isn't opened", flow->port);
     }
 }
@@ -124,7 +130,8 @@ static void call_again(struct flows *flows) {
     }
 }
 
-void flows_go(struct flows *flows) {
+bool flows_go(struct flows *flows) {
+    uint64_t before = flows->counts.calls;
     if (flows->put_off) call_again(flows);
     while (flows->first && flows->free && window_has_room(&flows->window, weight(flows->first))) {
         struct flow *flow = flows->free;
@@ -134,7 +141,7 @@ void flows_go(struct flows *flows) {
         flow->tries = 0;
         call(flows, flow);
     }
-    dt_udp_flush(flows->udp);
+    return flows->counts.calls > before;
 }
 
 /* --- answers */
@@ -201,9 +208,7 @@ void flows_ended(struct flows *flows, const struct dt_udp_event *event, flows_do
     struct demand *demand = part->demand;
     if (demand->client) note_answer(flows, part, &answer, event);
     else flows->left_behind--;
-    flow->part = NULL;
-    flow->next = flows->free;
-    flows->free = flow;
+    set_free(flows, flow);
     if (--demand->parts_left > 0) return;
     if (demand->client) done(demand, of);
     else demand_free(demand);

@@ -43,7 +43,7 @@ struct flows {
     dt_udp *udp;
     uint32_t node, generation, timeout_ms, part_octets;
     unsigned count, left_behind; /* left_behind: parts under way whose client is gone */
-    struct flow all[MAX_FLOWS], *free, *of_call[TABLE];
+    struct flow all[MAX_FLOWS], *free, *last_free, *of_call[TABLE]; /* free: the one that rested longest first */
     struct part *first, *last; /* parts that wait for a flow */
     struct window window;
     unsigned put_off; /* flows whose call has to be made again */
@@ -61,8 +61,8 @@ void flows_open(struct flows *flows, unsigned count);
 /* Cuts a demand into parts, which wait for flows. Nothing is sent yet. */
 void flows_add(struct flows *flows, struct demand *demand);
 
-/* Makes calls, as many as there are flows and as the window allows. */
-void flows_go(struct flows *flows);
+/* Makes calls, as many as there are flows and as the window allows. Returns whether it made some. */
+bool flows_go(struct flows *flows);
 
 /* Takes an event that ends a call. */
 void flows_ended(struct flows *flows, const struct dt_udp_event *event, flows_done done, void *of);

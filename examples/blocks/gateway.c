@@ -18,7 +18,7 @@
 
 static const char USAGE[] = "gateway HOST:PORT SOCKET [--take-over] [--flows N] [--part OCTETS]\n       " NETWORK_USAGE;
 
-enum { MAX_CLIENTS = 64, LATE_MS = 20, PUT_OFF_MS = 2 };
+enum { MAX_CLIENTS = 32, LATE_MS = 20, PUT_OFF_MS = 2 };
 
 struct words {
     char *host, *port;
@@ -96,7 +96,9 @@ static void let_in(struct gateway *gateway) {
 static void done(struct demand *demand, void *of) {
     struct gateway *gateway = of;
     if (demand->client != gateway) {
-        nbd_answer(demand->client, demand);
+        struct nbd *client = demand->client;
+        nbd_answer(client, demand);
+        if (client->waiting == 0) nbd_write(client); /* (nothing else is soon to be sent with it) */
         return;
     }
     if (demand->error) die("the server refused: %s", strerror((int)demand->error));
@@ -113,7 +115,7 @@ static void take_events(struct gateway *gateway) {
     }
 }
 
-/* Waits until something happens, and reads what came of clients. False: the program is to end. */
+/* Waits until something happens, and reads what clients sent. False: the program is to end. */
 static bool wait_and_read(struct gateway *gateway) {
     struct pollfd fds[MAX_CLIENTS + 3] = {{gateway->signals, POLLIN, 0},
                                           {dt_udp_fd(gateway->udp), POLLIN, 0},
@@ -124,7 +126,6 @@ static bool wait_and_read(struct gateway *gateway) {
         fds[i + 3] = (struct pollfd){it->fd, (short)((nbd_listens(it) ? POLLIN : 0) | (writes ? POLLOUT : 0)), 0};
     }
     if (poll(fds, MAX_CLIENTS + 3, gateway->flows.put_off ? PUT_OFF_MS : -1) < 0 && errno != EINTR) die_of_errno("poll");
-    if (fds[1].revents) take_events(gateway);
     bool one_ended = false; /* (perhaps before the one at the door came) */
     for (int i = 0; i < MAX_CLIENTS; i++) {
         struct nbd *it = &gateway->clients[i];
@@ -191,7 +192,8 @@ int main(int count, char **words) {
     open_gateway(gateway, &it);
     say_hello(gateway, it.takes_over);
     do {
-        flows_go(&gateway->flows);
+        do take_events(gateway); /* (a call may end others) */
+        while (flows_go(&gateway->flows));
         write_clients(gateway);
     } while (wait_and_read(gateway));
     for (int i = 0; i < MAX_CLIENTS; i++)
