@@ -1,6 +1,6 @@
 #!/usr/bin/env python3
-"""The firmware of examples/board under QEMU, over a bad serial line against `deltat node` and against the library:
-`tests/board.py [PROGRAM] [--library ARCHIVE] [--seed N] [--loss PART] [--keep FOLDER]`. Ends with 1 where one of these fails:
+"""The firmware of examples/board under QEMU, over a bad serial line against `deltat node` and against the library.
+`tests/board.py [PROGRAM] [--library ARCHIVE] [--seed N] [--loss PART] [--keep FOLDER]` ends with 1 where one of these fails:
 
 - built: the firmware compiles without a warning, and stays below CEILINGS.
 - first: the board starts with an erased flash, so as a new node, and sends at once. A tenth of the datagrams is lost each
@@ -135,8 +135,9 @@ def program(given: argparse.Namespace, log: pathlib.Path) -> Iterator[Peer]:
     text, sent = script(there, here, random.Random(given.seed))
     end = Udp(here, there)
     with open(log, "wb") as out, end.socket, subprocess.Popen([given.program, "node"], stdin=subprocess.PIPE, stdout=out) as node:
-        node.stdin.write(text.encode())
-        node.stdin.close()
+        assert node.stdin
+        with node.stdin as lines:
+            lines.write(text.encode())
         yield Peer(end, node, sent)
 
 
@@ -263,7 +264,7 @@ def audited(run_: Run, folder: pathlib.Path, program: str) -> bool:
 def first(run_: Run, folder: pathlib.Path, program: str) -> bool:
     up = b"".join(bytes((i + j) % 256 for j in range(1 + i * 37 % LONGEST_MESSAGE)) for i in range(MESSAGES))
     mine = octets_read(run_.board, DOWN)
-    stack = int(re.search(r" stack ([0-9]+)", run_.notes)[1])
+    stack = int(next(iter(re.findall(r" stack ([0-9]+)", run_.notes)), CEILINGS["stack"] + 1))
     print(run_.notes, f"(stack at most {CEILINGS['stack']})")
     good = [at_node(run_, "up", up, UP), is_sound("down", mine, run_.taken, run_.node, DOWN), at_node(run_, "back", mine, BACK),
             audited(run_, folder, program), count(run_.board, "took", UP) > 1000, len(mine) > 200, stack <= CEILINGS["stack"]]

@@ -31,7 +31,9 @@ import sys
 import tempfile
 import time
 import tty
+from collections.abc import Callable
 from dataclasses import dataclass, field
+from zlib import crc32
 
 from lib import TOP, skip
 
@@ -215,7 +217,7 @@ def framing(folder: str, compiler: str, words: list[str]) -> bool:
     good, chance = subprocess.run([path], check=False).returncode == 0, random.Random(1)
     for count in (1, 30, 250, 254, 255, 300, 600):
         for octets in (bytes(count), bytes(1 + it % 255 for it in range(count)), chance.randbytes(count)):
-            ours = b"\0" + bridge.stuff(octets + bridge.zlib.crc32(octets).to_bytes(4, "little")) + b"\0"
+            ours = b"\0" + bridge.stuff(octets + crc32(octets).to_bytes(4, "little")) + b"\0"
             theirs = subprocess.run([path, octets.hex()], capture_output=True, text=True, check=True).stdout.strip()
             if theirs != ours.hex():
                 print(f"framing of {octets.hex()[:40]}..: {theirs[:60]}, should be {ours.hex()[:60]}")
@@ -229,7 +231,7 @@ def all_arrive(case: Case) -> bool:
     return good and all(sum(map(len, it.got.values())) == FLOWS * case.messages() and it.counts[3] == 0 and it.counts[5] > 0 for it in ends)
 
 
-def zlib(made: Made, seed: int) -> bool:
+def with_zlib(made: Made, seed: int) -> bool:
     found = subprocess.run([made.compiler, "-E", "-"], input="#include <zlib.h>\n", capture_output=True, text=True, check=False)
     if found.returncode:
         print("zlib: there is no zlib.h: apt-get install zlib1g-dev")
@@ -269,16 +271,18 @@ def main() -> int:
     compiler = next((it for it in ("gcc", "clang") if shutil.which(it)), None)
     if compiler is None:
         skip("there is no compiler of C")
+        return 77
     if not given.library.exists():
         skip(f"{given.library} isn't there: make -C lib")
     with tempfile.TemporaryDirectory() as folder:
         made, seed = Made(folder, compiler, given.library), given.seed
         program = made.end("end", [])
         both = (program, program)
-        tests = {"framing": lambda: framing(folder, compiler, []), "zlib": lambda: zlib(made, seed),
-                 "clean": lambda: all_arrive(Case("clean", both, seed)), "bad": lambda: bad(program, seed),
-                 "long": lambda: all_arrive(Case("long", both, seed, is_long=True)),
-                 "half": lambda: half(program, seed), "gone": lambda: gone(program)}
+        tests: dict[str, Callable[[], bool]] = {
+            "framing": lambda: framing(folder, made.compiler, []), "zlib": lambda: with_zlib(made, seed),
+            "clean": lambda: all_arrive(Case("clean", both, seed)), "bad": lambda: bad(program, seed),
+            "long": lambda: all_arrive(Case("long", both, seed, is_long=True)),
+            "half": lambda: half(program, seed), "gone": lambda: gone(program)}
         failed = [name for name, it in tests.items() if not given.only or name in given.only if not it()]
     for name in failed:
         print(f"{name} failed")
