@@ -59,7 +59,7 @@
  *     change one needs its own checksum or key.
  *  7. Restart. Open a node number that may have been used less than dt_params_quiet_ms() ago with
  *     DT_START_AGAIN.
- *  8. One network. All nodes have equal parameters, and no two nodes have the same number.
+ *  8. One network. All nodes have the same mpl, r and a, and no two nodes have the same number.
  *  9. Lives (services). No two openings of a node number, and no dt_service_set_life, use the same
  *     life. Count it in a file that is written, and synced if the machine may crash, before the
  *     first call; or draw it at random.

@@ -1,14 +1,19 @@
 #!/usr/bin/env python3
-"""Makes libdeltat-aarch64.a beside this file: the library for Linux on aarch64, proved for that target.
+"""Makes the library for aarch64 beside this file, proved for that target.
 
-    lib/aarch64.py                  for a program of Linux: with the C files of lib/, so over malloc
-    lib/aarch64.py --without-heap   for a machine without a system: without these. The program has the three functions of
-                                    lib/heap.c, and memcpy, memmove and memset (examples/bare)
+    lib/aarch64.py                  libdeltat-aarch64.a, for a program of Linux: with the C files of lib/, so over
+                                    malloc
+    lib/aarch64.py --without-heap   libdeltat-aarch64-bare.a, for a machine without a system: without these. The
+                                    program has the three functions of lib/heap.c, and memcpy, memmove and memset
+                                    (examples/bare)
 
-`./build --only dt_c` is for the processor that it runs on, and rattle, which it calls, for others too. So this calls rattle
-on crates/dt_c, over the libraries below it, which `./build` proves first where that wasn't done yet, and adds the C files
-of lib/, compiled by $CC or aarch64-linux-gnu-gcc. They are compiled before anything is proved, so what is missing for them is
-said at once. Ends with rattle's status, 1 where a crate isn't proved or a file doesn't compile, and 2 where a tool is missing."""
+`./build --only dt_c` is for the processor that it runs on, and rattle, which it calls, for others too. So this calls
+rattle on crates/dt_c, over the libraries below it, and adds the C files of lib/, compiled by $CC or
+aarch64-linux-gnu-gcc. They are compiled before anything is proved, so what is missing for them is said at once. The
+libraries are those of `./build`: after it only dt_c is proved anew, and without it `./build` proves them first.
+`rt ci` keeps none that this could take.
+
+Ends with rattle's status, 1 where a crate isn't proved or a file doesn't compile, and 2 where a tool is missing."""
 import argparse
 import importlib.machinery
 import importlib.util
@@ -24,14 +29,16 @@ HERE = pathlib.Path(__file__).resolve().parent
 TOP = HERE.parent
 CRATES = TOP / "crates"
 CRATE, TARGET = "dt_c", "aarch64-unknown-linux-gnu"
-WANTED = HERE / "libdeltat-aarch64.a"
+WANTED = {False: HERE / "libdeltat-aarch64.a", True: HERE / "libdeltat-aarch64-bare.a"}
 
 
 def build() -> ModuleType:
     """`./build`, as a module: it knows the crates, and how rattle is called on one."""
     sys.dont_write_bytecode = True
     loader = importlib.machinery.SourceFileLoader("build", str(TOP / "build"))
-    module = importlib.util.module_from_spec(importlib.util.spec_from_loader("build", loader))
+    spec = importlib.util.spec_from_loader("build", loader)
+    assert spec
+    module = importlib.util.module_from_spec(spec)
     loader.exec_module(module)
     return module
 
@@ -42,8 +49,11 @@ def words(out: pathlib.Path, target: str, tools: pathlib.Path | None = None) -> 
     builds = build()
     crates, toolchain = builds.Crates(TOP), builds.Toolchain()
     subprocess.run([TOP / "build", "--only", *crates.below[CRATE]], check=True)
-    said = toolchain.proves(crates, CRATE, builds.libraries(TOP), 1)
-    return [*said, "--toolchain", str(tools or toolchain.folder / "toolchain"), "--crate-type", "staticlib", "--target", target, "-o", str(out)]
+    most = min(len(os.sched_getaffinity(0)), builds.MOST_JOBS)
+    jobs = max((it for it in range(1, most + 1) if builds.need(it) <= builds.available()), default=1)
+    said = toolchain.proves(crates, CRATE, builds.libraries(TOP), jobs)
+    into = ["--crate-type", "staticlib", "--target", target, "-o", str(out)]
+    return [*said, "--toolchain", str(tools or toolchain.folder / "toolchain"), *into]
 
 
 def compiled(compiler: str, folder: str) -> list[pathlib.Path] | None:
@@ -91,8 +101,8 @@ def main() -> int:
             return status
         if members:
             subprocess.run([tools / "bin" / "llvm-ar", "rs", archive, *members], check=True, stderr=subprocess.DEVNULL)
-        shutil.move(archive, WANTED)
-    print(WANTED)
+        shutil.move(archive, WANTED[given.without_heap])
+    print(WANTED[given.without_heap])
     return 0
 
 

@@ -3,9 +3,10 @@
 `tests/bare.py [--archive ARCHIVE] [--aarch64 ARCHIVE]`. Ends with 1 where one of these fails:
 
 - wants: what the library asks of a program are the six functions of examples/bare, and nothing else.
+- arena: what a node, a link and a flow take of an arena is what docs/field.md says (tests/bare/arena.c).
 - here: the image runs on this processor, without a C library: all octets that arrived are right, and all memory comes back.
 - aarch64: the same octets, datagrams and messages on a bare Cortex-A53 under qemu-system-aarch64. Left out, with a line,
-  where there is no lib/libdeltat-aarch64.a (lib/aarch64.py --without-heap proves it, in minutes) or a tool is missing.
+  where there is no lib/libdeltat-aarch64-bare.a (lib/aarch64.py --without-heap proves it, in minutes) or a tool is missing.
 
 Ends with 77 where there is no proved archive or no compiler.
 
@@ -22,11 +23,19 @@ import tempfile
 from lib import TOP, skip
 
 ARCHIVE = TOP / "crates" / "dt_c" / "out" / "libdt_c.a"
-AARCH64 = TOP / "lib" / "libdeltat-aarch64.a"
+AARCH64 = TOP / "lib" / "libdeltat-aarch64-bare.a"
 BARE = TOP / "examples" / "bare"
 SIX = {"rattle_alloc", "rattle_realloc", "rattle_dealloc", "memcpy", "memmove", "memset"}
 # the arena with both nodes open: a queue of 64 datagrams of 8,222 octets for each, whatever `seg` is
 MOST_ARENA = 1_120_000
+# octets, by room, segment, links and message: a node, its flow at the sender and at the receiver, and both at the most
+ARENAS = {
+    (512, 128, 1, 100): (546_676, 6_276, 5_276, 12_566),
+    (512, 128, 2, 100): (1_074_124, 6_276, 5_276, 12_566),
+    (512, 128, 1, 1): (546_676, 9_360, 39_760, 60_268),
+    (4096, 128, 1, 100): (546_676, 27_038, 27_714, 57_296),
+    (65536, 1024, 1, 1024): (546_676, 334_928, 220_560, 597_536),
+}
 COMPILE = ["-std=c11", "-O2", "-Wall", "-Wextra", "-Werror", "-ffreestanding", "-fno-stack-protector", "-fno-tree-loop-distribute-patterns", "-nostdlib", "-static",
            "-fno-pie", "-no-pie", f"-I{TOP / 'include'}", "-Wl,--gc-sections", "-Wl,--build-id=none"]
 EMULATOR = ["qemu-system-aarch64", "-M", "virt", "-cpu", "cortex-a53", "-m", "64", "-nic", "none", "-display", "none", "-monitor", "none", "-serial", "none",
@@ -44,6 +53,18 @@ def wants(archive: pathlib.Path) -> bool:
 
 def built(compiler: str, archive: pathlib.Path, path: pathlib.Path, *words: str) -> None:
     subprocess.run([compiler, *COMPILE, *words, str(BARE / "bare.c"), str(archive), "-o", str(path)], check=True)
+
+
+def arena(archive: pathlib.Path, folder: pathlib.Path) -> bool:
+    path, good = str(folder / "arena"), True
+    words = ["-std=c11", "-D_GNU_SOURCE", "-O1", "-Wall", "-Wextra", "-Werror", f"-I{TOP / 'include'}"]
+    subprocess.run(["gcc", *words, str(TOP / "tests" / "bare" / "arena.c"), str(archive), "-o", path], check=True)
+    for case, most in ARENAS.items():
+        found = tuple(said([path, *map(str, case)]).values())
+        if any(it > bound for it, bound in zip(found, most)):
+            print(f"arena {case}: {found}, at most {most}")
+            good = False
+    return good
 
 
 def said(command: list[str]) -> dict[str, int]:
@@ -72,7 +93,7 @@ def main() -> int:
         skip("there is no gcc")
     with tempfile.TemporaryDirectory() as name:
         folder = pathlib.Path(name)
-        good = wants(given.archive)
+        good = all([wants(given.archive), arena(given.archive, folder)])
         built("gcc", given.archive, folder / "here")
         here = said([str(folder / "here")])
         good = is_right(here) and good

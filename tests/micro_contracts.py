@@ -20,8 +20,8 @@ from lib import TOP, skip
 SOURCE = TOP / "micro" / "deltat_micro.c"
 PURE = ("two", "four", "failed", "dtm_read_deltagram", "dtm_read_packet", "dtm_action_of")
 TOOLS = {"frama-c": "frama-c-base", "why3": "why3", "cvc4": "cvc4"}
-# fewer goals would mean that contracts were lost
-LEAST = 100
+# Frama-C 25 makes 234 of them; many fewer would mean that contracts were lost
+LEAST = 220
 
 
 def main() -> int:

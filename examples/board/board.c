@@ -58,8 +58,9 @@ void board_send(uint8_t octet) {
     REG(UART) = octet;
 }
 
-/* Flash is erased to ones, and a bit can be cleared without erasing: each start clears one more bit of the page. Here it
-   has 1,024 words, so 32,768 starts until it is erased, which counts as a start too. */
+/* Flash is erased to ones, and a bit can be cleared without erasing: each start clears one more bit of the page, which has
+   1,024 words. After 32,768 starts it is full, and later ones are counted as that many. It is never erased: a device that
+   lost its power between that and the next write would open `first`. */
 uint32_t board_starts(void) {
     uint32_t count = 0;
     for (size_t i = 0; i < 1024; i++)
@@ -68,8 +69,6 @@ uint32_t board_starts(void) {
                 ((volatile uint32_t *)flash_page)[i] &= ~(1u << bit);
                 return count;
             }
-    for (size_t i = 0; i < 1024; i++) ((volatile uint32_t *)flash_page)[i] = UINT32_MAX;
-    flash_page[0] &= ~1u;
     return count;
 }
 

@@ -1,6 +1,6 @@
 #!/usr/bin/env python3
-"""Between a board's UART (a unix socket of QEMU) and a node over UDP. Both ways it loses, repeats and delays datagrams, and
-on the way to the board it changes octets.
+"""Between a board's UART (a unix socket of QEMU) and a node over UDP, or one over another line. Both ways it loses, repeats
+and delays datagrams, and on the way to a line it changes octets.
 
 `bridge.py SOCKET LOCAL-PORT NODE-PORT [--loss PART] [--seconds S] [--seed N]`: a PART of the datagrams is lost, half as
 many arrive twice, a third as many are spoilt. Each is under way for at most 80 ms, so a charge of 200 ms covers a bridge
@@ -10,6 +10,7 @@ from __future__ import annotations
 import argparse
 import heapq
 import itertools
+import os
 import random
 import select
 import socket
@@ -47,66 +48,100 @@ def unstuff(octets: bytes) -> bytes:
     return bytes(out)
 
 
+class Line:
+    """Datagrams on a line: each stuffed with its CRC-32 behind it, between octets 0. The file is a socket or a terminal, and
+    stays its owner's."""
+
+    def __init__(self, file: int) -> None:
+        self.file, self.had, self.spoilt = file, b"", 0
+
+    def fileno(self) -> int:
+        return self.file
+
+    def take(self) -> list[bytes] | None:
+        """The datagrams that have become whole; None where the other side is gone."""
+        octets = os.read(self.file, 4096)
+        *whole, self.had = (self.had + octets).split(b"\0")
+        found = []
+        for it in filter(None, whole):
+            datagram = unstuff(it)
+            if len(datagram) > 4 and zlib.crc32(datagram[:-4]).to_bytes(4, "little") == datagram[-4:]:
+                found.append(datagram[:-4])
+            else:
+                self.spoilt += 1
+        return found if octets else None
+
+    def put(self, datagram: bytes, flips: random.Random | None) -> None:
+        """Writes a datagram, with one bit changed where `flips` says which."""
+        out = bytearray(b"\0" + stuff(datagram + zlib.crc32(datagram).to_bytes(4, "little")) + b"\0")
+        if flips:
+            out[flips.randrange(len(out))] ^= 1 << flips.randrange(8)
+        while out:
+            del out[: os.write(self.file, out)]
+
+
+class Udp:
+    """Datagrams to a node over UDP. UDP has a check of its own, so none is changed."""
+
+    def __init__(self, local: int, node: int) -> None:
+        self.node, self.spoilt = node, 0
+        self.socket = socket.socket(socket.AF_INET, socket.SOCK_DGRAM)
+        self.socket.bind(("127.0.0.1", local))
+
+    def fileno(self) -> int:
+        return self.socket.fileno()
+
+    def take(self) -> list[bytes] | None:
+        return [self.socket.recv(9000)]
+
+    def put(self, datagram: bytes, flips: random.Random | None) -> None:
+        del flips
+        self.socket.sendto(datagram, ("127.0.0.1", self.node))
+
+
 class Bridge:
-    """One line and one socket. `counts` says what it did."""
+    """Between the board's line and another end. `counts` says what it did."""
 
-    def __init__(self, line: socket.socket, local: int, node: int, loss: float, seed: int) -> None:
-        self.line, self.node, self.loss, self.chance = line, node, loss, random.Random(seed)
-        self.udp = socket.socket(socket.AF_INET, socket.SOCK_DGRAM)
-        self.udp.bind(("127.0.0.1", local))
-        self.late: list[tuple[float, int, str, bytes]] = []
-        self.number, self.had = itertools.count(), b""
-        self.counts = {"up": 0, "down": 0, "lost": 0, "twice": 0, "spoilt": 0, "too late": 0, "arrived spoilt": 0}
+    def __init__(self, board: Line, other: Line | Udp, loss: float, seed: int) -> None:
+        self.ends, self.loss, self.chance = (board, other), loss, random.Random(seed)
+        self.late: list[tuple[float, int, int, bytes]] = []
+        self.number = itertools.count()
+        self.counts = {"up": 0, "down": 0, "lost": 0, "twice": 0, "spoilt": 0, "too late": 0}
 
-    def close(self) -> None:
-        self.line.close()
-        self.udp.close()
-
-    def under_way(self, way: str, datagram: bytes) -> None:
-        self.counts[way] += 1
+    def under_way(self, to: int, datagram: bytes) -> None:
+        """A datagram begins its way to the end 0 (the board) or 1."""
+        self.counts["up" if to else "down"] += 1
         copies = self.chance.choices([0, 1, 2], [self.loss, 1 - 1.5 * self.loss, self.loss / 2])[0]
         self.counts["lost"] += copies == 0
         self.counts["twice"] += copies == 2
         for _ in range(copies):
             due = time.monotonic() + self.chance.random() * MOST_LATE
-            heapq.heappush(self.late, (due, next(self.number), way, datagram))
+            heapq.heappush(self.late, (due, next(self.number), to, datagram))
 
-    def from_line(self) -> bool:
-        octets = self.line.recv(4096)
-        *whole, self.had = (self.had + octets).split(b"\0")
-        for it in filter(None, whole):
-            datagram = unstuff(it)
-            if len(datagram) > 4 and zlib.crc32(datagram[:-4]).to_bytes(4, "little") == datagram[-4:]:
-                self.under_way("up", datagram[:-4])
-            else:
-                self.counts["arrived spoilt"] += 1
-        return bool(octets)
-
-    def hand_over(self, way: str, datagram: bytes) -> None:
-        if way == "up":
-            self.udp.sendto(datagram, ("127.0.0.1", self.node))
-            return
-        out = bytearray(b"\0" + stuff(datagram + zlib.crc32(datagram).to_bytes(4, "little")) + b"\0")
-        if self.chance.random() < self.loss / 3:
-            out[self.chance.randrange(len(out))] ^= 1 << self.chance.randrange(8)
-            self.counts["spoilt"] += 1
-        self.line.sendall(out)
+    def hand_over(self, to: int, datagram: bytes) -> None:
+        is_line = isinstance(self.ends[to], Line)
+        is_spoilt = is_line and self.chance.random() < self.loss / 3
+        self.counts["spoilt"] += is_spoilt
+        self.ends[to].put(datagram, self.chance if is_spoilt else None)
 
     def turn(self) -> bool:
-        """Waits for what arrives, hands over what is due; whether the line is still there. What it would hand over too
+        """Waits for what arrives, hands over what is due; whether both ends are still there. What it would hand over too
         late, since it was held up itself, is lost: the charge doesn't cover more."""
         wait = max(self.late[0][0] - time.monotonic(), 0) if self.late else 0.1
-        ready, _, _ = select.select([self.line, self.udp], [], [], min(wait, 0.1))
-        if self.udp in ready:
-            self.under_way("down", self.udp.recv(9000))
-        there = self.line not in ready or self.from_line()
+        ready, _, _ = select.select(self.ends, [], [], min(wait, 0.1))
+        for at, end in enumerate(self.ends):
+            found = end.take() if end in ready else []
+            if found is None:
+                return False
+            for it in found:
+                self.under_way(1 - at, it)
         while self.late and self.late[0][0] <= time.monotonic():
-            due, _, way, datagram = heapq.heappop(self.late)
+            due, _, to, datagram = heapq.heappop(self.late)
             if time.monotonic() - due > MOST_HELD:
                 self.counts["too late"] += 1
             else:
-                self.hand_over(way, datagram)
-        return there
+                self.hand_over(to, datagram)
+        return True
 
 
 def connected(path: str, seconds: float = 20) -> socket.socket:
@@ -128,15 +163,14 @@ def main() -> int:
     reads.add_argument("--seconds", type=float, default=60)
     reads.add_argument("--seed", type=int, default=1)
     given = reads.parse_args()
-    bridge, begun = Bridge(connected(given.line), given.local, given.node, given.loss, given.seed), time.monotonic()
+    line, begun = connected(given.line), time.monotonic()
+    bridge = Bridge(Line(line.fileno()), Udp(given.local, given.node), given.loss, given.seed)
     try:
         while time.monotonic() - begun < given.seconds and bridge.turn():
             pass
     except (BrokenPipeError, ConnectionResetError):
         pass  # the board ended
-    finally:
-        bridge.close()
-    print(bridge.counts)
+    print(bridge.counts, *(f"arrived spoilt: {it.spoilt}" for it in bridge.ends[:1]))
     return 0
 
 

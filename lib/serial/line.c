@@ -48,7 +48,8 @@ bool serial_failed(dt_serial *it, int system_error) {
 }
 
 /* Writes what is left of a datagram. False: the line is gone. What couldn't be written in time is given up: the other end
-   takes it for spoilt. */
+   takes it for spoilt. Its first octet is written within max_late; the line's buffer may be shorter than it is, and takes the
+   last one when the line has carried the others. */
 static bool write_out(dt_serial *it) {
     while (it->out_at < it->out_len) {
         ssize_t len = write(it->line, it->out + it->out_at, it->out_len - it->out_at);
@@ -58,7 +59,7 @@ static bool write_out(dt_serial *it) {
     }
     if (it->out_len == 0) return true;
     if (it->out_at == it->out_len) it->counts.datagrams_out++;
-    else if (serial_now() - it->out_since > it->options.max_late) it->counts.late++;
+    else if (serial_now() - it->out_since > it->options.max_late + it->longest) it->counts.late++;
     else return true;
     it->out_len = it->out_at = 0;
     return true;

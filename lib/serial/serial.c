@@ -99,6 +99,7 @@ dt_serial *dt_serial_open(const struct dt_serial_options *options, struct dt_ser
     it->line = -1;
     it->pending_since = UINT64_MAX;
     complete(&it->options);
+    it->longest = longest(&it->options);
     if (opened(it, error)) return it;
     dt_serial_close(it);
     return NULL;

@@ -12,6 +12,7 @@ struct sent { struct dt_flow flow; uint32_t left; };
 
 struct dt_serial {
     struct dt_serial_options options; /* with the usual values in place of zeros */
+    uint32_t longest;                 /* ms that the longest datagram takes on the line */
     dt_node *node;
     int line;
     bool has_failed;
