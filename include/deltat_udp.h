@@ -58,6 +58,8 @@ enum dt_udp_flag { /* bits of options.flags */
     DT_UDP_FLAG_WITHOUT_BATCHES = 2,  /* read and write one datagram a system call */
     DT_UDP_FLAG_WITHOUT_STAMPS = 4,   /* don't use the kernel's time stamps */
     DT_UDP_FLAG_ALL_PORTS = 8,        /* receive at every port, not only at those of dt_udp_open_port */
+    DT_UDP_FLAG_WITHOUT_WATCH = 32,   /* don't measure how old datagrams are: to speak with nodes that
+                                         have no such driver. `charge` must be right then */
     DT_UDP_FLAG_PARAMS_CHANGED = 16   /* with `state`: the parameters were changed, with all nodes
                                          stopped. If the silence by the old ones is longer,
                                          dt_udp_open waits for the rest */
@@ -113,7 +115,15 @@ enum dt_udp_event_kind {
     DT_UDP_EVENT_FAILED = 9,    /* the driver can't continue: `cause` is DT_NO_MEMORY, DT_STOPPED, or
                                    DT_NOT_OPEN (a forked child, or a system call that failed:
                                    `system_error`) */
-    DT_UDP_EVENT_REPLY_UNCERTAIN = 10 /* `flow`: as DT_EVENT_REPLY_UNCERTAIN of deltat.h */
+    DT_UDP_EVENT_REPLY_UNCERTAIN = 10, /* `flow`: as DT_EVENT_REPLY_UNCERTAIN of deltat.h */
+    DT_UDP_EVENT_ALARM = 11     /* nothing of `peer` passes any more, as `cause` says */
+};
+
+enum dt_udp_alarm { /* `cause` of DT_UDP_EVENT_ALARM: once for each opening of the peer */
+    DT_UDP_ALARM_CLOCK = 1,     /* one of the two clocks stood, was set, or is wrong by more than 100 parts
+                                   in a million. Close the driver of the end whose clock it was, or of both,
+                                   and open it again */
+    DT_UDP_ALARM_PARAMETERS = 2 /* the peer has other parameters */
 };
 
 /* Belongs to the driver, and stays as it is until the next call of dt_udp_next_event or dt_udp_close. */
@@ -146,6 +156,16 @@ struct dt_udp_counts {
     uint64_t clock_steps;                 /* the wall clock was set: until then stamps don't count */
     uint64_t messages_lost;               /* of a node: out of memory */
     uint64_t messages_too_long;           /* of a node: longer than max_message */
+                                          /* of the watch, in: */
+    uint64_t without_trailer;             /* dropped: the sender has no watch, or a later version of it */
+    uint64_t too_old;                     /* dropped: the age left no life */
+    uint64_t ages_unknown;                /* kept until the sender had said how old */
+    uint64_t other_parameters;            /* dropped */
+    uint64_t clock_alarms;                /* dropped: a clock was wrong (DT_UDP_ALARM_CLOCK) */
+    uint64_t former_openings;             /* dropped: of an opening before the peer's present one */
+    uint64_t early_openings;              /* dropped: too soon after the last frame of the opening before */
+    uint64_t openings_proved;             /* openings of peers that were found to be the present ones */
+    uint64_t pings_in, pings_out;         /* questions how old a datagram is */
 };
 
 /* Returns the interface version of the library. Compare it with DT_UDP_ABI_VERSION first. */
