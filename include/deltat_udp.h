@@ -41,6 +41,10 @@ extern "C" {
 
 #define DT_UDP_ABI_VERSION 1u
 
+/* Octets of the trailer that the watch puts behind each datagram: give dt_params_for an `mtu` that is
+ * so much less than that of the path. */
+#define DT_UDP_TRAILER 34
+
 typedef struct dt_udp dt_udp;
 
 enum dt_udp_role { DT_UDP_ROLE_NODE = 1, DT_UDP_ROLE_SERVICE = 2 };

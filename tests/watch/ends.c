@@ -4,8 +4,8 @@
  *                            and answers with `answer` octets, until SIGTERM
  *   ends ask KEY=VALUE..     for `seconds`, has `depth` calls of `octets` octets under way on each of `flows` flows
  *
- * Keys: port peer_port node peer again flags mpl r rto charge seg seconds flows depth octets answer log; run: the upper
- * half of the numbers of requests; held: of 1,000 calls of the socket, how many are preceded by a SIGSTOP of this process;
+ * Keys: port peer_port node peer again life flags mpl r rto charge seg seconds flows depth octets answer log; delay_us:
+ * the parameters and the charge are those of dt_params_for; run: the upper half of the numbers of requests; held: of 1,000 calls of the socket, how many are preceded by a SIGSTOP of this process;
  * clock: a file whose first eight octets are the ns by which the clock stood. Each number is printed with its name. */
 #include "deltat_udp.h"
 #include <errno.h>
@@ -162,13 +162,25 @@ static void serve(struct end *it) {
 
 /* --- opening */
 
-static void open_end(struct end *it, bool asks) {
+static struct dt_params params_of(const struct end *it, uint32_t *charge) {
     struct dt_params params = {.size = sizeof params, .mpl = number(it, "mpl", 60), .r = number(it, "r", 100), .a = 2,
                                .rto = number(it, "rto", 10), .probe = 50, .seg = number(it, "seg", 1408), .cap = 65536,
                                .rcap = 65536, .window = 65536, .run_limit = 2147483648u, .start = 0};
+    uint32_t delay = number(it, "delay_us", 0);
+    *charge = number(it, "charge", 44);
+    if (delay == 0) return params;
+    struct dt_network network = DT_NETWORK(delay, 2 * delay);
+    network.mtu -= DT_UDP_TRAILER;
+    if (dt_params_for(&network, &params, charge) != DT_OK) die("no parameters suit");
+    return params;
+}
+
+static void open_end(struct end *it, bool asks) {
+    uint32_t charge;
+    struct dt_params params = params_of(it, &charge);
     struct dt_udp_options options = {.size = sizeof options, .node = it->node, .host = "127.0.0.1",
                                      .port = word(it, "port", NULL), .params = &params,
-                                     .charge = number(it, "charge", 44), .role = DT_UDP_ROLE_SERVICE,
+                                     .charge = charge, .role = DT_UDP_ROLE_SERVICE,
                                      .start_as = number(it, "again", 0) ? DT_UDP_START_AGAIN : DT_UDP_START_FIRST,
                                      .life = number(it, "life", 1), .flags = number(it, "flags", 0),
                                      .max_calls = 100000, .max_requests = 100000, .max_requests_per_flow = 1000};

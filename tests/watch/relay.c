@@ -3,7 +3,8 @@
  *
  *   relay KEY=VALUE..   a, b: ports of its own; to_a, to_b: ports of the two ends; delay: us; rate: Mbit/s, 0 for none;
  *                       queue: octets; seed; lose, copy, keep: datagrams of 10,000 that are lost, of which a second copy
- *                       arrives later, that arrive later only; from, to: how much later, in ms
+ *                       arrives later, that arrive later only; from, to: how much later, in ms; deaf: for so many ms
+ *                       of each 2 s nothing arrives at `to_a`
  *
  * What arrives at `a` leaves `b` for `to_b`, and the other way round. Until SIGTERM; then it prints what it did. */
 #include <arpa/inet.h>
@@ -44,7 +45,7 @@ struct relay {
     struct way ways[2];
     struct late late[MOST_LATE];
     size_t late_count;
-    uint64_t delay, queue, from, to, lose, copy, keep, longest;
+    uint64_t delay, queue, from, to, lose, copy, keep, deaf, longest;
     double octets_each_ns;
     uint64_t went, lost, crowded, copied, kept;
 };
@@ -135,7 +136,8 @@ static void take(struct relay *r, struct way *way) {
         r->copied += copied;
         r->kept += kept;
         if (kept) continue;
-        if (happens(r->lose)) r->lost++;
+        bool is_deaf = way == &r->ways[1] && now / 1000000 % 2000 < r->deaf;
+        if (is_deaf || happens(r->lose)) r->lost++;
         else queue_up(r, way, rooms[i], len, now);
     }
 }
@@ -180,6 +182,7 @@ int main(int count, char **words) {
     r.lose = (uint64_t)number(words, "lose", 0);
     r.copy = (uint64_t)number(words, "copy", 0);
     r.keep = (uint64_t)number(words, "keep", 0);
+    r.deaf = (uint64_t)number(words, "deaf", 0);
     r.from = (uint64_t)(number(words, "from", 1000) * 1e6);
     r.to = (uint64_t)(number(words, "to", 5000) * 1e6);
     srand48((long)number(words, "seed", 1));

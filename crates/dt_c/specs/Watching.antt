@@ -6,6 +6,7 @@ use Rattle.dt_watch.specs.declared.arrivals.Arrival.{Arrival}
 use Rattle.dt_watch.specs.declared.arrivals.Judgement.{Judgement}
 use Rattle.dt_watch.specs.declared.arrivals.Judgement.TheVariants.{Early, Former, OtherParameters, Present, Unproved}
 use Rattle.dt_watch.specs.declared.clock_bounds.ClockBounds.{ClockBounds}
+use Rattle.dt_watch.specs.declared.clocks.Clocks.{Clocks}
 use Rattle.dt_watch.specs.declared.openings.Openings.{Openings}
 use Rattle.dt_watch.specs.declared.watches.Watch.{Watch}
 use Rattle.dt_watch.specs.declared.windows.Window.{Window}
@@ -68,12 +69,19 @@ abbrev pub watch_size : ℕ
 watch_size = 48
 
 abbrev pub fits_watch : WatchOptions → Bool
-fits_watch o = nat_le o.drift 1000 && (nat_le o.grain 1000000 && (is_reading o.gap && is_reading o.now))
+fits_watch o = nat_le o.drift 1000 && (nat_le o.grain 1000000 && (is_reading o.gap && is_reading o.at))
 
 abbrev pub fits_window : WatchOptions → Bool
 fits_window o = nat_le (8 * o.segment) o.most && nat_lt o.most (2 ^ 40)
 
--- the watch of these options, at a reading that is `now`
+-- of an opening nothing is known yet
+pub record KnowsNothing (c : Clocks) (b : ClockBounds) (at : ℕ) : Type 0 where
+  pub heard : c.heard ≡ record { bounds = b; present = None; former = None }
+  pub lower : c.interval.lower ≡ record { bounds = b; present = None; former = None }
+  pub upper : c.interval.upper ≡ record { bounds = b; present = None; former = None }
+  pub since : c.spans.since.micros ≡ at
+
+-- the watch of these options
 pub record WatchFits (w : Watch) (o : WatchOptions) : Type 0 where
   pub drift : w.bounds.drift ≡ o.drift
   pub grain : w.bounds.grain ≡ o.grain
@@ -81,39 +89,42 @@ pub record WatchFits (w : Watch) (o : WatchOptions) : Type 0 where
   pub gap : w.openings.gap.micros ≡ o.gap
   pub grained : w.openings.grain ≡ o.grain
   pub present : w.openings.present ≡ None
-  pub now : Reading
-  pub is_now : now.micros ≡ o.now
-  pub first : Begins w.first w.bounds now
-  pub second : Begins w.second w.bounds now
-
-abbrev pub WatchIs : Option Watch → WatchOptions → Type 0
-WatchIs (Some w) o = (fits_watch o ≡ true) × WatchFits w o
-WatchIs None o = fits_watch o ≡ false
+  pub first : KnowsNothing w.first w.bounds o.at
+  pub second : KnowsNothing w.second w.bounds o.at
 
 abbrev pub WindowFits : Window → WatchOptions → Type 0
 WindowFits w o = (w.segment ≡ o.segment) × (w.most ≡ o.most) × (w.octets ≡ min (16 * o.segment) o.most)
-
-abbrev pub Opened : WatchSlot → WatchOptions → Type 0
-Opened s o = OpenedBy s.watch s.window o
 
 abbrev pub OpenedBy : Option Watch → Option Window → WatchOptions → Type 0
 OpenedBy (Some w) (Some v) o = WatchFits w o × WindowFits v o
 OpenedBy (Some w) None o = ⊥
 OpenedBy None v o = ⊥
 
+abbrev pub Opened : WatchSlot → WatchOptions → Type 0
+Opened s o = OpenedBy s.watch s.window o
+
 abbrev pub OpeningWatch : (status : ℕ) → WatchOptions → WatchSlot → WatchSlot → Type 0
 OpeningWatch status o s t = IfFit ((o.size == watch_size) && (fits_watch o && fits_window o)) ((status ≡ invalid) × (t ≡ s)) ((status ≡ ok) × Opened t o)
 
 -- THE CLOCKS of an opening
+abbrev pub BeginningWatch : (status : ℕ) → Bool → (came : ℕ) → Watch → Watch → Type 0
+BeginningWatch status second came w x = IfFit (is_reading came) ((status ≡ invalid) × (x ≡ w)) ((status ≡ ok) × ((r : Reading) × (r.micros ≡ came) × Chosen second w x (λ c d. Begins d w.bounds r)))
+
 abbrev pub Beginning : (status : ℕ) → Bool → (came : ℕ) → WatchSlot → WatchSlot → Type 0
-Beginning status second came s t = WatchGoesOn s.watch t.watch (status ≡ not_open) (λ w x. IfFit (is_reading came) ((status ≡ invalid) × (x ≡ w)) ((status ≡ ok) × ((r : Reading) × (r.micros ≡ came) × Chosen second w x (λ c d. Begins d w.bounds r)))) × (t.window ≡ s.window)
+Beginning status second came s t = WatchGoesOn s.watch t.watch (status ≡ not_open) (λ w x. BeginningWatch status second came w x) × (t.window ≡ s.window)
+
+abbrev pub HearingWatch : (status : ℕ) → Bool → CPassage → Watch → Watch → Type 0
+HearingWatch status second p w x = IfFit (is_passage p) ((status ≡ invalid) × (x ≡ w)) ((status ≡ status_of_clocks (pick second x).is_broken) × ((q : Passage) × SamePassage q p × Chosen second w x (λ c d. Hears c d q)))
 
 abbrev pub Hearing : (status : ℕ) → Bool → CPassage → WatchSlot → WatchSlot → Type 0
-Hearing status second p s t = WatchGoesOn s.watch t.watch (status ≡ not_open) (λ w x. IfFit (is_passage p) ((status ≡ invalid) × (x ≡ w)) ((status ≡ status_of_clocks (pick second x).is_broken) × ((q : Passage) × SamePassage q p × Chosen second w x (λ c d. Hears c d q)))) × (t.window ≡ s.window)
+Hearing status second p s t = WatchGoesOn s.watch t.watch (status ≡ not_open) (λ w x. HearingWatch status second p w x) × (t.window ≡ s.window)
 
 -- THE JUDGEMENT
+abbrev pub JudgingWatch : (status : ℕ) → CArrival → Watch → Watch → Type 0
+JudgingWatch status a w x = IfFit (is_arrival a) ((status ≡ invalid) × (x ≡ w)) ((q : Arrival) × SameArrival q a × (status ≡ judgement_code (judgement_of w.openings q)) × (x ≡ record w { openings = openings_after w.openings q }))
+
 abbrev pub Judging : (status : ℕ) → CArrival → WatchSlot → WatchSlot → Type 0
-Judging status a s t = WatchGoesOn s.watch t.watch (status ≡ not_open) (λ w x. IfFit (is_arrival a) ((status ≡ invalid) × (x ≡ w)) ((q : Arrival) × SameArrival q a × (status ≡ judgement_code (judgement_of w.openings q)) × (x ≡ record w { openings = openings_after w.openings q }))) × (t.window ≡ s.window)
+Judging status a s t = WatchGoesOn s.watch t.watch (status ≡ not_open) (λ w x. JudgingWatch status a w x) × (t.window ≡ s.window)
 
 -- WHAT IS SURE, and how old a datagram is
 abbrev pub said_of : Option Watch → Bool → ℕ → (Watch → ℕ) → ℕ
@@ -124,8 +135,8 @@ said_of (Some w) false else_says says = else_says
 abbrev pub SureIs : (result : ℕ) → Bool → (made : ℕ) → WatchSlot → WatchSlot → Type 0
 SureIs result second made s t = (t ≡ s) × (result ≡ said_of s.watch (is_reading made) 0 (λ w. sure_now (pick second w) made))
 
-abbrev pub AroundIs : (result : ℕ) → Bool → (then : ℕ) → WatchSlot → WatchSlot → Type 0
-AroundIs result second then s t = (t ≡ s) × (result ≡ said_of s.watch (is_reading then) 0 (λ w. lower_around (pick second w).interval.lower then))
+abbrev pub AroundIs : (result : ℕ) → Bool → (at : ℕ) → WatchSlot → WatchSlot → Type 0
+AroundIs result second at s t = (t ≡ s) × (result ≡ said_of s.watch (is_reading at) 0 (λ w. lower_around (pick second w).interval.lower at))
 
 abbrev pub AgeIs : (result : ℕ) → Bool → (came sure : ℕ) → WatchSlot → WatchSlot → Type 0
 AgeIs result second came sure s t = (t ≡ s) × (result ≡ said_of s.watch (is_reading came && (is_reading sure && nat_le sure came)) never (λ w. age_of came sure (uncertain_of (pick second w))))

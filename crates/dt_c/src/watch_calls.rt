@@ -1,6 +1,6 @@
 //! The calls of a watch, on what its handle holds.
-ghost use Rattle.std.specs.Prelude.{◌≡◌};
-ghost use Rattle.dt_c.specs.Watching.{AgeIs, AroundIs, Beginning, Growing, Hearing, Judging, MayEnterIs, OpeningWatch, Shrinking, SureIs, WatchIs, WindowIs, aim_or_none, cut_or_none, empty_watch, status_of_clocks, waited_or_most};
+ghost use Rattle.std.specs.Prelude.{◌≡◌, true};
+ghost use Rattle.dt_c.specs.Watching.{AgeIs, AroundIs, Beginning, BeginningWatch, Growing, Hearing, HearingWatch, Judging, JudgingWatch, MayEnterIs, OpeningWatch, Shrinking, SureIs, WatchFits, WindowIs, aim_or_none, cut_or_none, empty_watch, fits_watch, status_of_clocks, waited_or_most};
 
 use crate::c_structs::{INVALID, NEVER, NONE, NOT_OPEN, OK};
 use crate::watch_slots::WatchSlot;
@@ -16,15 +16,30 @@ pub fn empty_watch_slot() -> WatchSlot
     }
 }
 
-/// The watch that the options describe.
-fn watch_of(options: &WatchOptions) -> Option<Watch>
-    ensures { WatchIs result options.now }
+/// Whether each number for a watch is in its range.
+fn fits_watch(options: &WatchOptions) -> bool
+    ensures { result ≡ fits_watch options.now }
 {
-    let bounds = ClockBounds::new(options.drift, options.grain)?;
-    let gap = Reading::new(options.gap)?;
-    let now = Reading::new(options.now)?;
+    options.drift <= 1000
+        && options.grain <= 1_000_000
+        && is_reading(options.gap)
+        && is_reading(options.at)
+}
+
+/// The watch that the options describe.
+fn watch_of(options: &WatchOptions) -> Watch
+    requires { fits_watch options.now ≡ true }
+    ensures { WatchFits result options.now }
+{
+    let bounds = ClockBounds {
+        drift: options.drift,
+        grain: options.grain,
+    };
+    let gap = Reading {
+        micros: options.gap,
+    };
     let openings = Openings::new(options.fingerprint, gap, options.grain);
-    Some(Watch::new(bounds, openings, now))
+    Watch::new(bounds, openings, Reading { micros: options.at })
 }
 
 /// What is heard of clocks: [`NONE`] where nothing is believed any more.
@@ -71,62 +86,81 @@ pub fn waited_of(age: u64, charge: u32) -> u32
     }
 }
 
+/// The first datagram of an opening comes.
+fn begin_watch(watch: &mut Watch, second: bool, came: u64) -> u8
+    ensures { BeginningWatch result second came watch.old watch.new }
+{
+    if is_reading(came) {
+        watch.begin(second, Reading { micros: came });
+        OK
+    } else {
+        INVALID
+    }
+}
+
+/// A datagram came.
+fn hear_watch(watch: &mut Watch, second: bool, passage: &CPassage) -> u8
+    ensures { HearingWatch result second passage.now watch.old watch.new }
+{
+    if passage.is_fit() {
+        watch.hear(second, &passage.passage());
+        clocks_status(watch.is_broken(second))
+    } else {
+        INVALID
+    }
+}
+
+/// A datagram is judged.
+fn judge_watch(watch: &mut Watch, arrival: &CArrival) -> u8
+    ensures { JudgingWatch result arrival.now watch.old watch.new }
+{
+    if arrival.is_fit() {
+        judgement_code(watch.judge(&arrival.arrival()))
+    } else {
+        INVALID
+    }
+}
+
 impl WatchSlot {
     pub(crate) fn open(&mut self, options: &WatchOptions) -> u8
         ensures { OpeningWatch result options.now self.old self.new }
     {
-        if options.size != WATCH_OPTIONS_SIZE {
+        if options.size != WATCH_OPTIONS_SIZE || !fits_watch(options) {
             return INVALID;
         }
-        match (
-            watch_of(options),
-            Window::new(options.segment, options.most),
-        ) {
-            (Some(watch), Some(window)) => {
-                self.watch = Some(watch);
-                self.window = Some(window);
-                OK
-            }
-            _ => INVALID,
-        }
+        let Some(window) = Window::new(options.segment, options.most) else {
+            return INVALID;
+        };
+        self.watch = Some(watch_of(options));
+        self.window = Some(window);
+        OK
     }
 
     pub(crate) fn begin(&mut self, second: bool, came: u64) -> u8
         ensures { Beginning result second came self.old self.new }
     {
-        let Some(watch) = &mut self.watch else {
-            return NOT_OPEN;
-        };
-        if !is_reading(came) {
-            return INVALID;
+        match &mut self.watch {
+            Some(watch) => begin_watch(watch, second, came),
+            None => NOT_OPEN,
         }
-        watch.begin(second, Reading { micros: came });
-        OK
     }
 
     pub(crate) fn hear(&mut self, second: bool, passage: &CPassage) -> u8
         ensures { Hearing result second passage.now self.old self.new }
     {
-        let Some(watch) = &mut self.watch else {
-            return NOT_OPEN;
-        };
-        if !passage.is_fit() {
-            return INVALID;
+        match &mut self.watch {
+            Some(watch) => hear_watch(watch, second, passage),
+            None => NOT_OPEN,
         }
-        watch.hear(second, &passage.passage());
-        clocks_status(watch.is_broken(second))
     }
 
     pub(crate) fn judge(&mut self, arrival: &CArrival) -> u8
         ensures { Judging result arrival.now self.old self.new }
     {
-        let Some(watch) = &mut self.watch else {
-            return NOT_OPEN;
-        };
-        if !arrival.is_fit() {
-            return INVALID;
+        match &mut self.watch {
+            Some(watch) => judge_watch(watch, arrival),
+            None => NOT_OPEN,
         }
-        judgement_code(watch.judge(&arrival.arrival()))
     }
 
     pub(crate) fn sure(&mut self, second: bool, made: u64) -> u64
@@ -138,11 +172,11 @@ impl WatchSlot {
         }
     }
 
-    pub(crate) fn around(&mut self, second: bool, then: u64) -> u64
-        ensures { AroundIs result second then self.old self.new }
+    pub(crate) fn around(&mut self, second: bool, at: u64) -> u64
+        ensures { AroundIs result second at self.old self.new }
     {
-        match (&self.watch, Reading::new(then)) {
-            (Some(watch), Some(then)) => watch.around(second, then),
+        match (&self.watch, Reading::new(at)) {
+            (Some(watch), Some(at)) => watch.around(second, at),
             _ => 0,
         }
     }

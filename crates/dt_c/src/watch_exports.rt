@@ -85,14 +85,14 @@ pub unsafe extern "C" fn dt_watch_sure(watch: *mut WatchHandle, second: bool, ma
     WatchSlot::sure(unsafe { &mut *(watch as *mut WatchSlot) }, second, made)
 }
 
-/// What this clock had surely passed where the peer's read `then`: 0 where nothing is known.
+/// What this clock had surely passed where the peer's read `at`: 0 where nothing is known.
 #[unsafe(no_mangle)]
-pub unsafe extern "C" fn dt_watch_around(watch: *mut WatchHandle, second: bool, then: u64) -> u64
+pub unsafe extern "C" fn dt_watch_around(watch: *mut WatchHandle, second: bool, at: u64) -> u64
     ghost g: { WatchSlot }
     requires* { sem 𝓛 (points_to the_row watch g) }
-    ensures* { ∃ₛ (λ h. sem 𝓛 (points_to the_row watch h) ∗ ⌜ AroundIs result second then g h ⌝) }
+    ensures* { ∃ₛ (λ h. sem 𝓛 (points_to the_row watch h) ∗ ⌜ AroundIs result second at g h ⌝) }
 {
-    WatchSlot::around(unsafe { &mut *(watch as *mut WatchSlot) }, second, then)
+    WatchSlot::around(unsafe { &mut *(watch as *mut WatchSlot) }, second, at)
 }
 
 /// How old a datagram is at most, in microseconds, with what is counted for stops; or never.

@@ -14,7 +14,7 @@ pub struct WatchOptions {
     pub fingerprint: u32,
     /// The reading, and for how long after the last frame of an opening none of the next one is taken, in
     /// microseconds.
-    pub now: u64,
+    pub at: u64,
     pub gap: u64,
     /// The most octets that may be under way to the peer.
     pub most: u64,
