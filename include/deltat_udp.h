@@ -21,10 +21,15 @@
  * Which duties of deltat.h the driver keeps: memory of the handle, the clock (CLOCK_BOOTTIME), the
  * delay on this machine (a datagram leaves within 20 ms after it was made, or is dropped), the wait
  * in the socket (the kernel's stamps, and the time since the socket was last found empty), the
- * calls of a forked child (refused), and restart and lives where `state` names a folder.
+ * calls of a forked child (refused), and restart and lives where `state` names a folder. And the
+ * delay of the network: between two drivers each datagram ends with a trailer, by which the receiver
+ * knows by its own clock how old it is at most (docs/watch.md). Both ends need that, unless they are
+ * opened with DT_UDP_FLAG_WITHOUT_WATCH, to speak with nodes that have no driver.
  *
  * What the caller still has to do
- *   - options.charge covers the network, and 20 ms of each of the two machines (docs/premises.md).
+ *   - options.charge covers the network, and 20 ms of each of the two machines (docs/premises.md): what
+ *     is older is lost, and without the watch it may be delivered twice.
+ *   - An event DT_UDP_EVENT_ALARM is answered: a clock was wrong, and one driver is to be opened again.
  *   - All nodes have equal parameters, and no two nodes have the same number.
  *   - Without `state`: `start_as` and `life` are right (deltat.h).
  *   - Call dt_udp_next_event or dt_udp_flush within 20 ms after dt_udp_send, dt_udp_call or dt_udp_reply.

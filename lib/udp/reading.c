@@ -102,7 +102,11 @@ bool dtu_pass_in(dt_udp *u, const struct arrival *it) {
 
 /* Passes in a frame of a peer, of which it is known how long it waited. */
 void dtu_take_frame(dt_udp *u, struct peer *peer, const struct arrival *it) {
-    if (!dtu_pass_in(u, it)) return;
+    uint64_t old = u->counts.too_old;
+    if (!dtu_pass_in(u, it)) {
+        if (u->counts.too_old > old) dtu_watch_ask(u, peer, it);
+        return;
+    }
     peer->heard = peer->answered = true;
     peer->heard_at = it->at;
     if (it->own.family) peer->own = it->own;

@@ -425,6 +425,7 @@ bool dtu_watch_is_bare(const dt_udp *u, const struct arrival *arrival);
 bool dtu_watch_takes(dt_udp *u, struct watch **place, struct arrival *arrival);
 void dtu_watch_hear(dt_udp *u, struct watch **place, const struct arrival *arrival);
 void dtu_watch_bare(dt_udp *u, struct peer *peer, const struct arrival *arrival);
+void dtu_watch_ask(dt_udp *u, struct peer *peer, const struct arrival *arrival);
 bool dtu_watch_event(dt_udp *u);
 
 /* --- reading.c */

@@ -326,6 +326,12 @@ bool dtu_watch_takes(dt_udp *u, struct watch **place, struct arrival *a) {
     return false;
 }
 
+/* Asks a peer whose frame was too old: if it only looked old, since what the two ends know of each other's clocks rests
+ * on datagrams that were slow, the answer brings better readings. */
+void dtu_watch_ask(dt_udp *u, struct peer *peer, const struct arrival *a) {
+    if (u->watching.on && peer->watch) ping(u, peer->watch, a, peer->watch->second);
+}
+
 /* Hears what one of a peer's own datagrams says of clocks. */
 void dtu_watch_hear(dt_udp *u, struct watch **place, const struct arrival *a) {
     bool second;

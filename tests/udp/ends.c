@@ -277,7 +277,7 @@ static dt_udp *opened(struct end *it) {
         .port = word(it, "port", NULL),
         .params = &(struct dt_params){
             .size = sizeof(struct dt_params), .mpl = 482, .r = number(it, "r", 450), .a = 5, .rto = 90,
-            .probe = 180, .seg = number(it, "seg", 1442), .cap = 65536, .rcap = 65536, .window = 65536,
+            .probe = 180, .seg = number(it, "seg", 1408), .cap = 65536, .rcap = 65536, .window = 65536,
             .run_limit = 2147483648u, .start = 0},
         .charge = 294,
         .state = word(it, "state", NULL),

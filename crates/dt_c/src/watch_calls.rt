@@ -4,7 +4,9 @@ ghost use Rattle.dt_c.specs.Watching.{AgeIs, AroundIs, Beginning, BeginningWatch
 
 use crate::c_structs::{INVALID, NEVER, NONE, NOT_OPEN, OK};
 use crate::watch_slots::WatchSlot;
-use crate::watch_structs::{CArrival, CPassage, WATCH_OPTIONS_SIZE, WatchOptions, is_reading, judgement_code};
+use crate::watch_structs::{
+    CArrival, CPassage, WATCH_OPTIONS_SIZE, WatchOptions, is_reading, judgement_code,
+};
 use dt_watch::{ClockBounds, Openings, Reading, Route, Watch, Window, aim, cut, waited_ms};
 
 pub fn empty_watch_slot() -> WatchSlot

@@ -107,7 +107,12 @@ pub unsafe extern "C" fn dt_watch_age(
     requires* { sem 𝓛 (points_to the_row watch g) }
     ensures* { ∃ₛ (λ h. sem 𝓛 (points_to the_row watch h) ∗ ⌜ AgeIs result second came sure g h ⌝) }
 {
-    WatchSlot::age(unsafe { &mut *(watch as *mut WatchSlot) }, second, came, sure)
+    WatchSlot::age(
+        unsafe { &mut *(watch as *mut WatchSlot) },
+        second,
+        came,
+        sure,
+    )
 }
 
 /// How many octets may be under way to the peer.
@@ -127,7 +132,11 @@ pub unsafe extern "C" fn dt_watch_admits(watch: *mut WatchHandle, under_way: u64
     requires* { sem 𝓛 (points_to the_row watch g) }
     ensures* { ∃ₛ (λ h. sem 𝓛 (points_to the_row watch h) ∗ ⌜ MayEnterIs result under_way octets g h ⌝) }
 {
-    WatchSlot::admits(unsafe { &mut *(watch as *mut WatchSlot) }, under_way, octets)
+    WatchSlot::admits(
+        unsafe { &mut *(watch as *mut WatchSlot) },
+        under_way,
+        octets,
+    )
 }
 
 /// The window is larger.

@@ -27,9 +27,8 @@ pub use interval::{Interval, Passage};
 pub use laws::{
     age_counts_stops, alarm_means_a_broken_clock, clocks_that_keep_their_rates_go_together,
     datagram_is_no_older_than_charge_and_wait, had_passed_around,
-    no_alarm_bounds_stops_by_the_flights,
-    one_bound_is_enough, sure_had_passed, sure_rests_on_its_stamp,
-    width_bounds_stops_of_the_receiver, width_bounds_stops_of_the_sender,
+    no_alarm_bounds_stops_by_the_flights, one_bound_is_enough, sure_had_passed,
+    sure_rests_on_its_stamp, width_bounds_stops_of_the_receiver, width_bounds_stops_of_the_sender,
 };
 pub use lower::Lower;
 pub use opening_laws::{

@@ -109,10 +109,6 @@ impl Watch {
     fn clocks(&self, second: bool) -> &Clocks
         ensures { result.now ≡ pick second self.now }
     {
-        if second {
-            &self.second
-        } else {
-            &self.first
-        }
+        if second { &self.second } else { &self.first }
     }
 }
