@@ -10,7 +10,7 @@ int main(int count, char **words) {
         .role = DT_UDP_ROLE_SERVICE, .charge = 294,
         .params = &(struct dt_params){
             .size = sizeof(struct dt_params), .mpl = 482, .r = 450, .a = 5, .rto = 90, .probe = 180,
-            .seg = 1442, .cap = 65536, .rcap = 65536, .window = 65536, .run_limit = 2147483648u, .start = 0}};
+            .seg = 1408, .cap = 65536, .rcap = 65536, .window = 65536, .run_limit = 2147483648u, .start = 0}};
     struct dt_udp_error error = {.text = "usage: udp_client HOST WORD [PORT]"};
     dt_udp *udp = count < 3 ? NULL : dt_udp_open(&options, &error);
     if (udp == NULL || dt_udp_set_peer(udp, 2, words[1], count > 3 ? words[3] : "4002", &error) != DT_OK)

@@ -14,8 +14,8 @@ int main(int count, char **words) {
         .role = DT_UDP_ROLE_SERVICE, .max_peers = 1000, .charge = 294,
         .params = &(struct dt_params){
             .size = sizeof(struct dt_params), .mpl = 482, .r = 450, .a = 5, .rto = 90, .probe = 180,
-            .seg = 1442, .cap = 65536, .rcap = 65536, .window = 65536, .run_limit = 2147483648u,
-            .start = 0}}; /* by tools/params.py 250 50 --shelf 2 */
+            .seg = 1408, .cap = 65536, .rcap = 65536, .window = 65536, .run_limit = 2147483648u,
+            .start = 0}}; /* by tools/params.py 250 50 --shelf 2 --mtu 1466 */
     struct dt_udp_error error;
     dt_udp *udp = dt_udp_open(&options, &error);
     if (udp == NULL) return fprintf(stderr, "udp_service: %s\n", error.text), 1;

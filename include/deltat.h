@@ -12,6 +12,7 @@
  *   2 The loop of a program        6 Input        10 Counters
  *   3 Status codes                 7 Output       11 Services: request and reply
  *   4 Types                        8 Messages     12 Helpers: names, log lines, parameters
+ *  13 The watch: how old a datagram is
  *
  * What is proved. The contract of each function (crates/dt_c) is proved for all arguments, under
  * duty 1. What the calls of several nodes give together is proved by the laws of
@@ -857,6 +858,118 @@ struct dt_network {         /* what is known of a network, and wanted of it */
  * Cost: a few steps for usual clocks. */
 dt_status dt_params_for(const struct dt_network *network, struct dt_params *params,
                         uint32_t *charge);
+
+/* ---- 13 THE WATCH: HOW OLD A DATAGRAM IS, AND HOW MUCH MAY BE UNDER WAY ----
+ *
+ * For programs that keep duty 4 by measuring, as the driver of deltat_udp.h does: two ends put
+ * readings of their clocks behind each frame (docs/watch.md). One handle is for one peer. It has no
+ * memory beside its own, so it needs no closing. Place it yourself: dt_watch_size() octets of your
+ * memory, aligned to dt_watch_align(), on which dt_watch_init is called once. Readings are
+ * microseconds of a clock that keeps counting while the machine sleeps, below 2^48. A handle that
+ * isn't open answers DT_NOT_OPEN, or what each function says. No call allocates. */
+
+typedef struct dt_watch dt_watch;
+
+struct dt_watch_options {
+    uint32_t size;
+    uint32_t fingerprint; /* the first four octets of dt_params_fingerprint */
+    uint64_t now;         /* a reading */
+    uint64_t gap;         /* for how long after the last frame of an opening of the peer none of the
+                             next one is taken: dt_params_quiet_ms less mpl, in microseconds */
+    uint64_t most;        /* octets that may be under way: 8 segments to 2^40 - 1 */
+    uint32_t drift;       /* how far two clocks go apart: half of how many parts in a million of a
+                             span, 0 to 1,000. Clocks within d parts of the true time: d + 1 */
+    uint32_t grain;       /* and microseconds more, 0 to 1,000,000: three steps of a clock */
+    uint32_t segment;     /* octets of a segment */
+    uint32_t reserved;
+};
+
+struct dt_passage {       /* the readings of a datagram */
+    uint64_t made;        /* its sender's, when it was made */
+    uint64_t sure;        /* the receiver's that had surely passed then; 0: not known */
+    uint64_t came;        /* the receiver's, when it came */
+};
+
+struct dt_arrival {       /* a datagram, as its trailer describes it */
+    uint64_t opening;     /* names its sender's opening, as no other opening of that node is named */
+    uint64_t sure, came;  /* as in dt_passage */
+    uint32_t fingerprint; /* its sender's */
+    uint32_t is_frame;    /* 0: it carries no frame */
+};
+
+enum dt_judgement {       /* what dt_watch_judge returns */
+    DT_JUDGED_PRESENT = 32,         /* of the present opening */
+    DT_JUDGED_UNPROVED = 33,        /* of one that hasn't proved that it is the latest: ask it */
+    DT_JUDGED_FORMER = 34,          /* of one before the present one: drop it */
+    DT_JUDGED_EARLY = 35,           /* a frame too soon after the last one of the opening before: drop
+                                       it */
+    DT_JUDGED_OTHER_PARAMETERS = 36 /* drop it */
+};
+
+size_t dt_watch_size(void);
+size_t dt_watch_align(void);
+
+/* Makes a handle that isn't open, of fresh memory. */
+void dt_watch_init(dt_watch *watch);
+
+/* Opens a handle, or opens it anew: nothing is known of the peer.
+ *   DT_OK
+ *   DT_INVALID  an option is out of its range; nothing changed */
+dt_status dt_watch_open(dt_watch *watch, const struct dt_watch_options *options);
+
+/* Forgets what is known of one of two openings: its first datagram comes. The caller knows which of
+ * the two, the first or the `second`, is which.
+ *   DT_OK
+ *   DT_NOT_OPEN, DT_INVALID  nothing changed */
+dt_status dt_watch_begin(dt_watch *watch, bool second, uint64_t came);
+
+/* Takes the readings of a datagram of that opening, also of one that is dropped later. After 30 s in
+ * which none came, what was known before is forgotten.
+ *   DT_OK
+ *   DT_NONE     the readings can't all be true: a clock stood, was set or drifts by more than
+ *               `drift`. From now on nothing of this opening may be believed
+ *   DT_NOT_OPEN, DT_INVALID  nothing changed */
+dt_status dt_watch_hear(dt_watch *watch, bool second, const struct dt_passage *passage);
+
+/* Judges a datagram by its opening: returns an enum dt_judgement, DT_NOT_OPEN or DT_INVALID. An opening
+ * becomes the present one if its datagram has a later `sure` than any of the one before had. */
+dt_status dt_watch_judge(dt_watch *watch, const struct dt_arrival *arrival);
+
+/* Returns what the peer's clock had surely passed when this one read `made`: what a datagram to it
+ * has as `sure`. 0: nothing is known, or for 24 s nothing came. */
+uint64_t dt_watch_sure(dt_watch *watch, bool second, uint64_t made);
+
+/* Returns what this clock had surely passed when the peer's read `then`: for a datagram that had no
+ * `sure`, after others had. 0: nothing is known. */
+uint64_t dt_watch_around(dt_watch *watch, bool second, uint64_t then);
+
+/* Returns how old a datagram is at most that is handed in at the reading `came`, in microseconds,
+ * stops of clocks that weren't seen included. DT_NEVER: `sure` is later than `came`. */
+uint64_t dt_watch_age(dt_watch *watch, bool second, uint64_t came, uint64_t sure);
+
+/* Returns the `waited_ms` for dt_node_receive that this age means, beside the charge of the link. */
+uint32_t dt_watch_waited_ms(uint64_t age, uint32_t charge);
+
+/* Returns how many octets may be under way to the peer, handed in and not settled; 0: not open. */
+uint64_t dt_watch_window(dt_watch *watch);
+
+/* Returns 1 if a message of so many octets fits into the window beside what is under way, or if
+ * nothing is under way; else 0. */
+uint8_t dt_watch_admits(dt_watch *watch, uint64_t under_way, uint64_t octets);
+
+/* Makes the window larger: by half if `fast`, else by a 64th or 8 segments, and up to `most`. Or
+ * smaller by so many thousandths, 500 at most, and down to 8 segments. DT_OK or DT_NOT_OPEN. */
+dt_status dt_watch_grow(dt_watch *watch, bool fast);
+dt_status dt_watch_shrink(dt_watch *watch, uint32_t thousandths);
+
+/* Returns the delay in queues to aim at, in microseconds: a quarter of the least delay `base`, 2 ms
+ * at least, and at most what is left by `budget`, the longest life of a datagram, and by `resend`,
+ * after which a segment goes again. 0 if `base` or `resend` is 2^50 or more. */
+uint64_t dt_watch_aim(uint64_t base, uint64_t budget, uint64_t resend);
+
+/* Returns by how many thousandths a window shrinks after a round whose delay in queues was above
+ * `aim`: 80 to 500. 0 if it wasn't, or an argument is 2^50 or more. */
+uint32_t dt_watch_cut(uint64_t queue, uint64_t base, uint64_t aim);
 
 #ifdef __cplusplus
 }

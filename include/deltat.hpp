@@ -128,6 +128,14 @@ enum class Cause : std::uint8_t {
     Timeout = DT_CAUSE_TIMEOUT,
     Stopped = DT_CAUSE_STOPPED,
 };
+
+enum class Judgement : std::uint8_t {
+    Present = DT_JUDGED_PRESENT,
+    Unproved = DT_JUDGED_UNPROVED,
+    Former = DT_JUDGED_FORMER,
+    Early = DT_JUDGED_EARLY,
+    OtherParameters = DT_JUDGED_OTHER_PARAMETERS,
+};
 // end: made by release/interface.py
 
 // "DT_FULL", as deltat.h has it

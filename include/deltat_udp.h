@@ -21,10 +21,15 @@
  * Which duties of deltat.h the driver keeps: memory of the handle, the clock (CLOCK_BOOTTIME), the
  * delay on this machine (a datagram leaves within 20 ms after it was made, or is dropped), the wait
  * in the socket (the kernel's stamps, and the time since the socket was last found empty), the
- * calls of a forked child (refused), and restart and lives where `state` names a folder.
+ * calls of a forked child (refused), and restart and lives where `state` names a folder. And the
+ * delay of the network: between two drivers each datagram ends with a trailer, by which the receiver
+ * knows by its own clock how old it is at most (docs/watch.md). Both ends need that, unless they are
+ * opened with DT_UDP_FLAG_WITHOUT_WATCH, to speak with nodes that have no driver.
  *
  * What the caller still has to do
- *   - options.charge covers the network, and 20 ms of each of the two machines (docs/premises.md).
+ *   - options.charge covers the network, and 20 ms of each of the two machines (docs/premises.md): what
+ *     is older is lost, and without the watch it may be delivered twice.
+ *   - An event DT_UDP_EVENT_ALARM is answered: a clock was wrong, and one driver is to be opened again.
  *   - All nodes have equal parameters, and no two nodes have the same number.
  *   - Without `state`: `start_as` and `life` are right (deltat.h).
  *   - Call dt_udp_next_event or dt_udp_flush within 20 ms after dt_udp_send, dt_udp_call or dt_udp_reply.
@@ -40,6 +45,10 @@ extern "C" {
 #endif
 
 #define DT_UDP_ABI_VERSION 1u
+
+/* Octets of the trailer that the watch puts behind each datagram: give dt_params_for an `mtu` that is
+ * so much less than that of the path. */
+#define DT_UDP_TRAILER 34
 
 typedef struct dt_udp dt_udp;
 
@@ -58,6 +67,8 @@ enum dt_udp_flag { /* bits of options.flags */
     DT_UDP_FLAG_WITHOUT_BATCHES = 2,  /* read and write one datagram a system call */
     DT_UDP_FLAG_WITHOUT_STAMPS = 4,   /* don't use the kernel's time stamps */
     DT_UDP_FLAG_ALL_PORTS = 8,        /* receive at every port, not only at those of dt_udp_open_port */
+    DT_UDP_FLAG_WITHOUT_WATCH = 32,   /* don't measure how old datagrams are: to speak with nodes that
+                                         have no such driver. `charge` must be right then */
     DT_UDP_FLAG_PARAMS_CHANGED = 16   /* with `state`: the parameters were changed, with all nodes
                                          stopped. If the silence by the old ones is longer,
                                          dt_udp_open waits for the rest */
@@ -113,7 +124,15 @@ enum dt_udp_event_kind {
     DT_UDP_EVENT_FAILED = 9,    /* the driver can't continue: `cause` is DT_NO_MEMORY, DT_STOPPED, or
                                    DT_NOT_OPEN (a forked child, or a system call that failed:
                                    `system_error`) */
-    DT_UDP_EVENT_REPLY_UNCERTAIN = 10 /* `flow`: as DT_EVENT_REPLY_UNCERTAIN of deltat.h */
+    DT_UDP_EVENT_REPLY_UNCERTAIN = 10, /* `flow`: as DT_EVENT_REPLY_UNCERTAIN of deltat.h */
+    DT_UDP_EVENT_ALARM = 11     /* nothing of `peer` passes any more, as `cause` says */
+};
+
+enum dt_udp_alarm { /* `cause` of DT_UDP_EVENT_ALARM: once for each opening of the peer */
+    DT_UDP_ALARM_CLOCK = 1,     /* one of the two clocks stood, was set, or is wrong by more than 100 parts
+                                   in a million. Close the driver of the end whose clock it was, or of both,
+                                   and open it again */
+    DT_UDP_ALARM_PARAMETERS = 2 /* the peer has other parameters */
 };
 
 /* Belongs to the driver, and stays as it is until the next call of dt_udp_next_event or dt_udp_close. */
@@ -146,6 +165,16 @@ struct dt_udp_counts {
     uint64_t clock_steps;                 /* the wall clock was set: until then stamps don't count */
     uint64_t messages_lost;               /* of a node: out of memory */
     uint64_t messages_too_long;           /* of a node: longer than max_message */
+                                          /* of the watch, in: */
+    uint64_t without_trailer;             /* dropped: the sender has no watch, or a later version of it */
+    uint64_t too_old;                     /* dropped: the age left no life */
+    uint64_t ages_unknown;                /* kept until the sender had said how old */
+    uint64_t other_parameters;            /* dropped */
+    uint64_t clock_alarms;                /* dropped: a clock was wrong (DT_UDP_ALARM_CLOCK) */
+    uint64_t former_openings;             /* dropped: of an opening before the peer's present one */
+    uint64_t early_openings;              /* dropped: too soon after the last frame of the opening before */
+    uint64_t openings_proved;             /* openings of peers that were found to be the present ones */
+    uint64_t pings_in, pings_out;         /* questions how old a datagram is */
 };
 
 /* Returns the interface version of the library. Compare it with DT_UDP_ABI_VERSION first. */

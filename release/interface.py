@@ -608,13 +608,14 @@ MADE: dict[Path, Callable[[], str]] = {RUST: rust, PYTHON: python, LAYOUT: layou
 
 
 # what the structs of crates/dt_c are called, where it isn't their name here without its prefix
-ALSO_IN_RATTLE = ("params", "flow", "link", "route", "report", "token", "network", "call_counts")
+ALSO_IN_RATTLE = ("params", "flow", "link", "route", "report", "token", "network", "call_counts",
+                  "passage", "arrival")
 EXPORTED = {f"dt_{it}": f"C{camel(it)}" for it in ALSO_IN_RATTLE}
 # functions that plain C of lib/ has
 IN_C = re.compile(r"dt_(version|(status|fault|report)_name|report_line|(node|service)_(new|free))")
 RATTLE_TYPES = {
     "u8": "uint8_t", "u16": "uint16_t", "u32": "uint32_t", "u64": "uint64_t", "usize": "size_t", "bool": "bool",
-    "Handle": "dt_node", "ServiceHandle": "dt_service",
+    "Handle": "dt_node", "ServiceHandle": "dt_service", "WatchHandle": "dt_watch",
 }
 EXPORT = re.compile(r'extern "C" fn (\w+)\s*\(([^)]*)\)(?:\s*->\s*(\w+))?')
 STRUCT = re.compile(r"#\[repr\(C\)\]\s*(?:#\[[^\n]*\]\s*)*pub struct (\w+)(?:<[^>]*>)? \{(.*?)\n\}", re.DOTALL)

@@ -5,7 +5,8 @@ Each frame is a datagram of a trace that PROGRAM runs again, and a packet of a c
 with tools/wireshark/deltat.lua. What the program tells of it (its fault, or its flow, number and count of
 octets) is what the dissector shows. The frames: the worked frame of docs/formats.md with each octet at
 each value (8,960 changes), each of its first parts, each kind in both versions, data of each length near
-a limit, and what relays and other nodes see.
+a limit, and what relays and other nodes see. Frames with the trailer of the driver's watch, and its pings, by the
+worked trailer of docs/formats.md.
 
 One line a case, and then how many hold. Status 1 where one fails, 77 where tshark isn't there.
 
@@ -196,6 +197,39 @@ def values(program: str, folder: str) -> bool:
     return good
 
 
+def worked_trailer() -> bytes:
+    """The trailer of docs/formats.md."""
+    lines = (ROOT / "docs" / "formats.md").read_text().splitlines()
+    return bytes.fromhex(next(it for it in lines if it.startswith("a1b2c3d4")))
+
+
+def trailers(program: str, folder: str) -> bool:
+    """What is shown of a frame with a trailer, of a ping, and of a trailer of another version."""
+    del program
+    trailer = worked_trailer()
+    numbers = {"print": "0xa1b2c3d4", "opening": "0x0000000000000007", "version": "1", "kind": "1", "round": "0",
+               "made": "2000000", "sure": "1999000", "of": "0x0009", "aged": "20", "rounded": "5", "wall": "0", "heard": "3"}
+    ping = trailer[:10] + b"\x12" + trailer[11:]
+    other = trailer[:10] + b"\x21" + trailer[11:]
+    none = dict.fromkeys(numbers, "")
+    steps = [
+        (worked() + trailer, {**numbers, "flow": "1:10>2:20", "fault": "", "maker": ""}),
+        (bytes(3) + b"\x01" + ping, {**numbers, "kind": "2", "flow": "", "fault": "", "maker": "1"}),
+        (worked() + other, {**none, "flow": "", "fault": "length 19 53", "maker": ""}),
+    ]
+    names = [*numbers, "maker", "flow", "fault"]
+    wanted_names = [f"deltat.trailer.{it}" for it in [*numbers, "maker"]] + ["deltat.flow", "deltat.fault"]
+    rows = tshark(captured([it for it, _ in steps], folder), wanted_names, "-d", "udp.port==4002,deltat")
+    found = [dict(zip(names, row + [""] * (len(names) - len(row)))) for row in rows]
+    wrong = [(there, wanted) for there, (_, wanted) in zip(found, steps) if there != wanted]
+    for there, wanted in wrong:
+        print(f"  {there}, not {wanted}")
+    claimed = tshark(captured([it for it, _ in steps], folder), ["deltat.flow"])
+    good = not wrong and len(rows) == len(steps) and [row[0] for row in claimed] == ["1:10>2:20", "", ""]
+    print(f"trailers: {len(steps)} packets, {'as they should be' if good else 'wrong'}")
+    return good
+
+
 def main() -> int:
     parser = argparse.ArgumentParser(description=__doc__, formatter_class=argparse.RawDescriptionHelpFormatter)
     parser.add_argument("program", nargs="?", default=str(ROOT / "crates/deltat/out/deltat"), help="the program (default: %(default)s)")
@@ -206,7 +240,7 @@ def main() -> int:
     cases = {"changes": changes, "kinds": kinds, "lengths": lengths, "parts": parts}
     with tempfile.TemporaryDirectory() as folder:
         results = [same(name, program, list(frames()), folder) for name, frames in cases.items()]
-        results += [claims(program, folder), values(program, folder)]
+        results += [claims(program, folder), values(program, folder), trailers(program, folder)]
     print(f"{sum(results)} of {len(results)} hold")
     return 0 if all(results) else 1
 

@@ -64,8 +64,9 @@ dt_status dt_udp_open_port(dt_udp *u, uint16_t port, uint8_t kind) {
 static dt_status begin(dt_udp *u, const void *handle, uint64_t *at) {
     if (!dtu_is_usable(u)) return u->failed;
     if (handle == NULL) return DT_NOT_OPEN;
-    *at = dtu_clock_ms();
-    return dtu_begin(u, *at) ? DT_OK : u->failed;
+    uint64_t us = dtu_clock_us();
+    *at = us / 1000;
+    return dtu_begin(u, us) ? DT_OK : u->failed;
 }
 
 /* (The library wants a pointer even if there are no octets. It doesn't write through it.) */

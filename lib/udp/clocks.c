@@ -28,6 +28,8 @@ bool dtu_clock_works(void) {
 
 uint64_t dtu_clock_ms(void) { return (uint64_t)nanoseconds(CLOCK_BOOTTIME) / MS; }
 
+uint64_t dtu_clock_us(void) { return (uint64_t)nanoseconds(CLOCK_BOOTTIME) / 1000; }
+
 uint64_t dtu_clock_ms_of(const struct reading *reading) { return (uint64_t)reading->boot / MS; }
 
 struct reading dtu_clock_reading(void) {

@@ -127,8 +127,8 @@ static bool next_report(dt_udp *u) {
 
 static bool next_message(dt_udp *u) {
     if (u->unread && u->queue.octets <= u->options.max_queued / 2) {
-        uint64_t at = dtu_clock_ms();
-        if (dtu_begin(u, at)) dtu_events_collect(u, at);
+        uint64_t us = dtu_clock_us();
+        if (dtu_begin(u, us)) dtu_events_collect(u, us / 1000);
     }
     struct message *it = u->queue.first;
     if (it == NULL) return false;
@@ -178,7 +178,7 @@ static bool next_too_big(dt_udp *u) {
 
 /* Makes the next thing that happened the event. False: nothing did. */
 static bool next_event(dt_udp *u) {
-    return next_too_big(u) || next_report(u) || dtu_objects_event(u) ||
+    return next_too_big(u) || dtu_watch_event(u) || next_report(u) || dtu_objects_event(u) ||
            (u->core.service ? next_of_service(u) : next_message(u));
 }
 

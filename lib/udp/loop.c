@@ -67,8 +67,9 @@ void dtu_loop_arm(dt_udp *u) {
 }
 
 /* Does what is due. Each input does that too, so nothing is due at the reading of the last one. */
-static void tick(dt_udp *u, uint64_t at) {
-    if (at <= u->input_at || at <= u->ticked_at || u->failed || dtu_core_wake(&u->core) > at || !dtu_begin(u, at))
+static void tick(dt_udp *u, uint64_t us) {
+    uint64_t at = us / 1000;
+    if (at <= u->input_at || at <= u->ticked_at || u->failed || dtu_core_wake(&u->core) > at || !dtu_begin(u, us))
         return;
     u->ticked_at = at;
     (void)dtu_core_tick(&u->core, at);
@@ -84,9 +85,10 @@ void dtu_loop_turn(dt_udp *u, int wait_ms) {
         if (wait_ms < 0 || left < (uint64_t)wait_ms) wait_ms = left < LONGEST_WAIT_MS ? (int)left : LONGEST_WAIT_MS;
     }
     dtu_read_socket(u, wait_ms);
-    uint64_t at = u->turned_at = dtu_clock_ms();
-    dtu_strangers_greet(u, at);
-    tick(u, at);
+    uint64_t us = dtu_clock_us();
+    u->turned_at = us / 1000;
+    dtu_strangers_greet(u, us / 1000);
+    tick(u, us);
 }
 
 dt_status dt_udp_drain(dt_udp *u, int wait_ms) {

@@ -182,10 +182,10 @@ static void head_of(uint8_t *at, int kind, const struct sending *it, uint32_t in
 }
 
 static dt_status send_on(dt_udp *u, uint32_t target, uint16_t port, const struct iovec *message) {
-    uint64_t at = dtu_clock_ms();
+    uint64_t us = dtu_clock_us();
     struct dt_flow flow = {u->options.node, target, port, port};
-    if (!dtu_begin(u, at)) return u->failed;
-    dt_status status = dtu_core_send(&u->core, at, &flow, message).status;
+    if (!dtu_begin(u, us)) return u->failed;
+    dt_status status = dtu_core_send(&u->core, us / 1000, &flow, message).status;
     dtu_judge(u);
     return status;
 }

@@ -39,15 +39,19 @@ void dtu_judge(dt_udp *u) {
     if (u->core.stopped) dtu_fail(u, u->core.stopped, 0);
 }
 
-/* Begins an input of the node with this reading: what it makes is late LATE_MS after the oldest reading, and the
+/* Begins an input of the node with this reading, in us: what it makes is late LATE_MS after the oldest reading, and the
  * state folder knows of it before it is done. False: the input must not be given to the node. */
-bool dtu_begin(dt_udp *u, uint64_t at) {
+bool dtu_begin(dt_udp *u, uint64_t us) {
+    uint64_t at = us / 1000;
     if (u->failed) return false;
     if (!dtu_state_note(u, at)) {
         dtu_fail(u, DT_NOT_OPEN, errno);
         return false;
     }
-    if (u->out.made_at == DT_NEVER) u->out.made_at = at;
+    if (u->out.made_at == DT_NEVER) {
+        u->out.made_at = at;
+        u->out.made_us = us;
+    }
     if (at > u->input_at) u->input_at = at;
     return true;
 }
@@ -82,7 +86,7 @@ static dt_status take_options(dt_udp *u, const struct dt_udp_options *given, str
     if (o->start_as > DT_UDP_START_AGAIN || (o->start_as == DT_UDP_START_BY_STATE && o->state == NULL))
         return dtu_refuse(error, DT_INVALID, 0,
                           "options.start_as is %u; use DT_UDP_START_AGAIN unless the number is new", o->start_as);
-    if (o->flags >> 5) return dtu_refuse(error, DT_INVALID, 0, "options.flags is %u; use enum dt_udp_flag", o->flags);
+    if (o->flags >> 6) return dtu_refuse(error, DT_INVALID, 0, "options.flags is %u; use enum dt_udp_flag", o->flags);
     if (o->params == NULL || o->params->size != sizeof *o->params)
         return dtu_refuse(error, DT_INVALID, 0, "options.params is null, or its size isn't sizeof(struct dt_params)");
     u->params = *o->params;
@@ -134,7 +138,7 @@ static dt_status open_all(dt_udp *u, const struct dt_udp_options *options, struc
     if ((status = dtu_socket_open(u, error)) != DT_OK) return status;
     if (dtu_reading_open(u) != DT_OK || dtu_writing_open(u) != DT_OK)
         return dtu_refuse(error, DT_NO_MEMORY, 0, "out of memory");
-    if ((status = dtu_strangers_open(u)) != DT_OK)
+    if ((status = dtu_strangers_open(u)) != DT_OK || (status = dtu_watch_open(u)) != DT_OK)
         return dtu_refuse(error, status, errno, "no memory, or no random octets");
     u->opened = dtu_clock_reading();
     dtu_clock_was_empty(u, &u->opened);
@@ -165,6 +169,7 @@ void dt_udp_close(dt_udp *u) {
     dtu_reading_close(u);
     dtu_writing_close(u);
     dtu_strangers_close(u);
+    dtu_watch_close(u);
     dtu_peers_close(&u->peers);
     dtu_loop_close(u);
     free(u->ports.list);

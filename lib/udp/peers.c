@@ -19,6 +19,7 @@ void dtu_peers_close(struct peers *peers) {
     for (size_t i = 0; peers->buckets && i < peers->size; i++)
         for (struct peer *it = peers->buckets[i], *next; it; it = next) {
             next = it->next;
+            dtu_watch_free(it->watch);
             free(it);
         }
     free(peers->buckets);
@@ -75,6 +76,7 @@ void dtu_peers_remove(struct peers *peers, struct peer *peer) {
         for (link = &peers->too_big; *link != peer;) link = &(*link)->next_too_big;
         *link = peer->next_too_big;
     }
+    dtu_watch_free(peer->watch);
     free(peer);
 }
 

@@ -10,6 +10,7 @@
 
 enum {
     MADE_BY = 8,           /* where a Deltagram's header names the node that made it */
+    MAKER_LEN = 4,
     READ_CLOCK_EVERY = 16, /* datagrams */
     FLUSH_MS = 5,          /* frames that wait for longer are sent before more is passed in */
     BLIND_MS = 4 /* without stamps a look waits no longer, since a datagram may have waited as long as the look */
@@ -87,36 +88,48 @@ bool dtu_is_from(struct peer *peer, const struct address *from) {
 }
 
 /* Passes one datagram in; whether the node took it. What of it becomes readable is read at once, so that
- * acknowledgements say how much room there is. (A trailer behind the frame would be taken off here, and its age told
- * in `waited_ms`.) */
+ * acknowledgements say how much room there is. */
 bool dtu_pass_in(dt_udp *u, const struct arrival *it) {
-    if (!dtu_begin(u, it->at)) return false;
-    bool taken = dtu_core_receive(&u->core, it->at, it->octets, it->len, it->waited_ms) == DT_OK;
+    if (!dtu_begin(u, it->at_us)) return false;
+    dt_status status = dtu_core_receive(&u->core, it->at, it->octets, it->len, it->waited_ms);
+    bool taken = status == DT_OK;
+    if (status == DT_EXPIRED) u->counts.too_old++;
     if (taken) u->heard_at = it->at;
     dtu_judge(u);
     dtu_events_collect(u, it->at);
     return taken;
 }
 
-/* Passes a datagram in if it came from its maker's address. */
-static void receive(dt_udp *u, struct arrival *it) {
-    u->counts.datagrams_in++;
-    if (dtu_is_control(u, it)) return;
-    if (it->len < HEADER) {
-        u->counts.unknown++;
+/* Passes in a frame of a peer, of which it is known how long it waited. */
+void dtu_take_frame(dt_udp *u, struct peer *peer, const struct arrival *it) {
+    uint64_t old = u->counts.too_old;
+    if (!dtu_pass_in(u, it)) {
+        if (u->counts.too_old > old) dtu_watch_ask(u, peer, it);
         return;
     }
-    it->maker = (uint32_t)dtu_get_number(it->octets + MADE_BY, 4);
-    struct peer *peer = dtu_peers_find(&u->peers, it->maker);
-    if (peer == NULL || !dtu_is_from(peer, it->from)) {
-        dtu_stranger(u, it);
-        return;
-    }
-    if (!dtu_pass_in(u, it)) return;
     peer->heard = peer->answered = true;
     peer->heard_at = it->at;
     if (it->own.family) peer->own = it->own;
     dtu_strangers_heard(u, peer);
+}
+
+/* Takes a datagram: one of the drivers' own, or a frame that came from its maker's address. */
+static void receive(dt_udp *u, struct arrival *it) {
+    u->counts.datagrams_in++;
+    if (!dtu_watch_strip(u, it)) return;
+    bool bare = dtu_watch_is_bare(u, it);
+    if (!bare && dtu_is_control(u, it)) return;
+    if (it->len < (bare ? MAKER_LEN : HEADER)) {
+        u->counts.unknown++;
+        return;
+    }
+    it->maker = (uint32_t)dtu_get_number(it->octets + (bare ? 0 : MADE_BY), MAKER_LEN);
+    struct peer *peer = dtu_peers_find(&u->peers, it->maker);
+    bool is_peers = peer && dtu_is_from(peer, it->from);
+    if (bare && !is_peers) u->counts.unknown++;
+    else if (bare) dtu_watch_bare(u, peer, it);
+    else if (!is_peers) dtu_stranger(u, it);
+    else if (dtu_watch_takes(u, &peer->watch, it)) dtu_take_frame(u, peer, it);
 }
 
 /* Passes in what one read brought: one datagram, or several of one length that the system joined. */
@@ -125,7 +138,11 @@ static void take(dt_udp *u, unsigned i, const struct reading *at) {
     const uint8_t *octets = u->in.parts[i].iov_base;
     size_t len = u->in.heads[i].msg_len;
     struct label label = label_of(head, len);
-    struct arrival it = {.from = &u->in.from[i], .own = label.own, .at = dtu_clock_ms_of(at)};
+    struct arrival it = {.from = &u->in.from[i],
+                         .own = label.own,
+                         .at = dtu_clock_ms_of(at),
+                         .at_us = (uint64_t)at->boot / 1000,
+                         .came_us = u->in.came_us};
     it.waited_ms = dtu_clock_waited(u, at, head->msg_flags & MSG_CTRUNC ? -1 : label.stamp_ns);
     u->in.from[i].len = head->msg_namelen;
     if (len == 0 || head->msg_flags & MSG_TRUNC) {
@@ -133,10 +150,11 @@ static void take(dt_udp *u, unsigned i, const struct reading *at) {
         u->counts.unknown++;
         return;
     }
-    for (size_t done = 0; done < len; done += it.len) {
-        it.octets = octets + done;
-        it.len = len - done < label.segment ? len - done : label.segment;
-        receive(u, &it);
+    for (size_t done = 0; done < len; done += label.segment) {
+        struct arrival one = it; /* (its trailer is taken off) */
+        one.octets = octets + done;
+        one.len = len - done < label.segment ? len - done : label.segment;
+        receive(u, &one);
     }
 }
 
@@ -198,6 +216,7 @@ void dtu_read_socket(dt_udp *u, int wait_ms) {
     int count = look(u, wait_ms), why = errno;
     struct reading after = dtu_clock_reading();
     dtu_clock_after_look(u, &after);
+    u->in.came_us = (uint64_t)after.boot / 1000;
     if (count < 0) {
         look_failed(u, why, &before);
         return;

@@ -92,7 +92,10 @@ dt_status dtu_strangers_open(dt_udp *u) {
     return u->options.max_peers && s->proofs == NULL ? DT_NO_MEMORY : DT_OK;
 }
 
-void dtu_strangers_close(dt_udp *u) { free(u->strangers.proofs); }
+void dtu_strangers_close(dt_udp *u) {
+    for (size_t i = 0; u->strangers.proofs && i < PROOFS; i++) dtu_watch_free(u->strangers.proofs[i].watch);
+    free(u->strangers.proofs);
+}
 
 /* --- the order in which learnt peers were heard */
 
@@ -153,12 +156,13 @@ static bool is_proved(const struct proof *it, const struct arrival *arrival, uin
 /* --- control datagrams */
 
 static void send_control(dt_udp *u, int kind, const struct arrival *to, uint64_t cookie, uint8_t span) {
-    uint8_t octets[CONTROL_LEN] = {FORM, FORM_VERSION, (uint8_t)kind, span};
+    uint8_t octets[CONTROL_LEN + TRAILER_LEN] = {FORM, FORM_VERSION, (uint8_t)kind, span};
+    const struct peer *peer = kind == CHALLENGE ? NULL : dtu_peers_find(&u->peers, to->maker);
     dtu_put_number(octets + 4, u->options.node, 4);
     dtu_put_number(octets + 8, to->maker, 4);
     dtu_put_number(octets + 12, cookie, 8);
     dtu_put_number(octets + 20, kind == CHALLENGE ? 0 : u->strangers.key, 8);
-    dtu_write_control(u, to, octets, sizeof octets);
+    dtu_write_control(u, to, octets, dtu_watch_stamp_own(u, peer ? peer->watch : NULL, octets, CONTROL_LEN));
 }
 
 /* Asks a stranger for a proof, unless too many were asked just now. */
@@ -195,6 +199,7 @@ static void answer_challenge(dt_udp *u, const struct arrival *it) {
     }
     peer->heard = true;
     peer->proved_at = it->at;
+    dtu_watch_hear(u, &peer->watch, it);
     send_control(u, PROOF, it, dtu_get_number(it->octets + 12, 8), it->octets[3]);
     dtu_write_held(u, peer); /* (it couldn't be passed in there before) */
 }
@@ -214,12 +219,19 @@ static void take_proof(dt_udp *u, const struct arrival *it) {
         return;
     }
     if (moves) {
+        dtu_watch_hear(u, &peer->watch, it);
         u->counts.peers_moved += !dtu_same_address(&peer->at, it->from);
         peer->at = *it->from;
         peer->own = it->own;
         return;
     }
-    *proof_of(u, it->maker, it->from) = (struct proof){.from = *it->from, .node = it->maker, .key = key, .at = it->at};
+    struct proof *proof = proof_of(u, it->maker, it->from);
+    if (!is_proved(proof, it, it->maker) || proof->key != key) { /* (a repeat goes on with what was heard) */
+        dtu_watch_free(proof->watch);
+        proof->watch = NULL;
+    }
+    *proof = (struct proof){.from = *it->from, .watch = proof->watch, .node = it->maker, .key = key, .at = it->at};
+    dtu_watch_hear(u, &proof->watch, it);
 }
 
 /* Somebody waits for an answer, perhaps at another address than the one that we know. */
@@ -292,13 +304,16 @@ static void keep(dt_udp *u, const struct arrival *it, struct peer *peer, struct 
     peer->at = *it->from;
     peer->own = it->own;
     peer->key = proof->key;
+    dtu_watch_free(peer->watch);
+    peer->watch = proof->watch;
+    proof->watch = NULL;
     peer->heard = peer->answered = true;
     peer->heard_at = it->at;
     proof->from.len = 0;
 }
 
 /* A frame from an address that isn't its maker's. */
-void dtu_stranger(dt_udp *u, const struct arrival *it) {
+void dtu_stranger(dt_udp *u, struct arrival *it) {
     struct peer *peer = dtu_peers_find(&u->peers, it->maker);
     if (u->strangers.proofs == NULL || !is_plausible(u, it, peer)) {
         u->counts.unknown++;
@@ -312,6 +327,7 @@ void dtu_stranger(dt_udp *u, const struct arrival *it) {
         u->counts.unknown++;
         return;
     }
+    if (!dtu_watch_takes(u, &proof->watch, it)) return;
     uint64_t before = dtu_core_accepted(&u->core);
     dtu_pass_in(u, it);
     if (dtu_core_accepted(&u->core) != before) keep(u, it, peer, proof);

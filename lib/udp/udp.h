@@ -9,6 +9,8 @@
  *   reading.c   datagrams from the socket to the node
  *   writing.c   datagrams from the node to the socket
  *   clocks.c    readings of the clocks, and how long a datagram waited in the socket
+ *   trailer.c   the trailer behind each datagram between drivers
+ *   watch.c     how old each datagram is that arrives
  *   loop.c      the wait, the descriptor, the timer
  *   events.c    what dt_udp_next_event returns
  *   calls.c     what a program asks of the node
@@ -30,7 +32,8 @@ enum {
     MAX_UDP = 65535,     /* octets that one system call may send or read of one datagram */
     MAX_ADDRESSES = 4,   /* of one name that are tried */
     HEADER = 16,         /* octets of a Deltagram's header (docs/formats.md) */
-    TRAILER = 64,        /* room behind each frame for a trailer; none is written yet */
+    TRAILER_LEN = 34,    /* octets of the trailer behind each datagram (docs/formats.md) */
+    TRAILER = 64,        /* room for it */
     CONTROL_ROOM = 128   /* octets of control messages of one datagram */
 };
 
@@ -58,8 +61,60 @@ struct own_address {
     } name;
 };
 
+enum trailer_kind { TRAILER_FRAME = 1, TRAILER_PING = 2, TRAILER_PONG = 3 };
+
+enum { TRAILER_NOT_AGED = 65535 };
+
+/* What a trailer says; times are microseconds. */
+struct trailer {
+    uint64_t opening;     /* names its maker's opening */
+    uint64_t made;        /* its maker's clock when the datagram was made */
+    uint64_t sure;        /* the receiver's clock had passed this then; 0: not known */
+    uint32_t print, wall; /* the first octets of the fingerprint; ms of the wall clock */
+    uint16_t of;          /* the lower half of the name of the receiver's opening that `sure` belongs to */
+    uint16_t aged, heard; /* of the last datagram that its maker heard: its age; how many it had heard */
+    uint8_t kind, round, rounded;
+};
+
+/* What is known of a peer's clocks and openings. */
+struct watch {
+    dt_watch *rules;        /* behind this struct */
+    uint64_t present, next; /* the names of its present opening, and of one that isn't proved; 0: none */
+    uint64_t pinged_us;     /* when it was last asked */
+    uint16_t sent, heard, its_heard;
+    uint16_t aged;          /* what it is told of its last datagram */
+    uint8_t round, its_round;
+    uint8_t alarms;         /* bits 1 << enum dt_udp_alarm that were events */
+    bool second;            /* which clocks of `rules` are those of the present opening */
+};
+
+enum watched {
+    WATCHED_PRESENT,  /* of the present opening */
+    WATCHED_UNPROVED, /* of an opening that isn't proved: its sender can be asked */
+    WATCHED_DROPPED
+};
+
+struct kept;
+
+struct watch_alarm {
+    uint32_t node;
+    uint8_t cause; /* enum dt_udp_alarm */
+};
+
+enum { MAX_ALARMS = 16 };
+
+struct watching {
+    struct kept *kept, *last_kept; /* frames that wait until their age is known */
+    uint64_t opening;              /* names this one */
+    struct watch_alarm alarms[MAX_ALARMS];
+    size_t kept_count, first_alarm, alarm_count;
+    uint32_t print; /* the first octets of the fingerprint of our parameters */
+    bool on;
+};
+
 struct peer {
     struct peer *next; /* in its bucket */
+    struct watch *watch; /* null: nothing came yet */
     struct peer *next_too_big, *next_prover;
     struct peer *older, *newer; /* of learnt peers: in the order in which they were heard */
     struct address at; /* the one that is in use */
@@ -87,6 +142,7 @@ struct peers {
 /* A stranger that has shown that it hears at an address. */
 struct proof {
     struct address from; /* len 0: none */
+    struct watch *watch; /* or null */
     uint32_t node;
     uint64_t key, at;
 };
@@ -112,7 +168,7 @@ struct held {
     uint32_t to;
     size_t len;
     uint64_t made_at;
-    uint8_t octets[DT_MAX_DATAGRAM];
+    uint8_t octets[DT_MAX_DATAGRAM + TRAILER];
 };
 
 /* A datagram that arrived. */
@@ -123,7 +179,10 @@ struct arrival {
     struct own_address own;
     uint32_t maker; /* the node that its header names */
     uint32_t waited_ms;
-    uint64_t at;
+    uint64_t at;      /* the reading by which it is passed in, in ms */
+    uint64_t at_us;   /* and in us */
+    uint64_t came_us; /* the reading after the look that found it */
+    struct trailer trailer;
 };
 
 /* One end of the protocol: exactly one of `node` and `service` is open. */
@@ -161,6 +220,7 @@ struct incoming {
     uint8_t *rooms;
     size_t room;    /* octets of each */
     unsigned used;  /* how many heads have to be set up again */
+    uint64_t came_us; /* the reading after the last look */
     bool full;      /* the last look filled the batch: there may be more */
 };
 
@@ -172,6 +232,7 @@ struct outgoing {
     uint8_t *rooms; /* OUT_BATCH of DT_MAX_DATAGRAM + TRAILER octets */
     unsigned count; /* heads */
     uint64_t made_at; /* the reading by which the oldest frame that waits was made; DT_NEVER: none waits */
+    uint64_t made_us; /* and in us */
 };
 
 struct ports {
@@ -227,6 +288,7 @@ struct dt_udp {
     struct held held;
     struct state state;
     struct objects objects;
+    struct watching watching;
     struct queue queue;
     struct reports reports;
     struct message *lent;  /* what the last event points to */
@@ -288,7 +350,7 @@ uint64_t dtu_core_quiet_ms(const struct dt_params *params);
 bool dtu_is_usable(dt_udp *u);
 void dtu_fail(dt_udp *u, dt_status status, int system_error);
 void dtu_judge(dt_udp *u);
-bool dtu_begin(dt_udp *u, uint64_t at);
+bool dtu_begin(dt_udp *u, uint64_t us);
 
 /* --- sockets.c */
 dt_status dtu_socket_open(dt_udp *u, struct dt_udp_error *error);
@@ -316,7 +378,7 @@ void dtu_strangers_configured(dt_udp *u, struct peer *peer);
 uint64_t dtu_strangers_wake(const dt_udp *u);
 void dtu_strangers_greet(dt_udp *u, uint64_t at);
 bool dtu_is_control(dt_udp *u, struct arrival *arrival);
-void dtu_stranger(dt_udp *u, const struct arrival *arrival);
+void dtu_stranger(dt_udp *u, struct arrival *arrival);
 
 /* --- state.c */
 dt_status dtu_state_open(dt_udp *u, uint64_t *now, struct dt_udp_error *error);
@@ -339,6 +401,7 @@ uint64_t dtu_get_number(const uint8_t *at, int octets);
 
 /* --- clocks.c */
 uint64_t dtu_clock_ms(void);
+uint64_t dtu_clock_us(void);
 uint64_t dtu_clock_ms_of(const struct reading *reading);
 bool dtu_clock_works(void);
 struct reading dtu_clock_reading(void);
@@ -347,12 +410,31 @@ void dtu_clock_is_doubtful(dt_udp *u);
 void dtu_clock_after_look(dt_udp *u, const struct reading *after);
 uint32_t dtu_clock_waited(const dt_udp *u, const struct reading *after, int64_t stamp_ns);
 
+/* --- trailer.c */
+void dtu_trailer_write(uint8_t *at, const struct trailer *trailer);
+bool dtu_trailer_read(const uint8_t *at, struct trailer *trailer);
+
+/* --- watch.c */
+dt_status dtu_watch_open(dt_udp *u);
+void dtu_watch_close(dt_udp *u);
+void dtu_watch_free(struct watch *watch);
+void dtu_watch_stamp(dt_udp *u, struct peer *peer, struct iovec *frame);
+size_t dtu_watch_stamp_own(dt_udp *u, const struct watch *watch, uint8_t *octets, size_t len);
+bool dtu_watch_strip(dt_udp *u, struct arrival *arrival);
+bool dtu_watch_is_bare(const dt_udp *u, const struct arrival *arrival);
+bool dtu_watch_takes(dt_udp *u, struct watch **place, struct arrival *arrival);
+void dtu_watch_hear(dt_udp *u, struct watch **place, const struct arrival *arrival);
+void dtu_watch_bare(dt_udp *u, struct peer *peer, const struct arrival *arrival);
+void dtu_watch_ask(dt_udp *u, struct peer *peer, const struct arrival *arrival);
+bool dtu_watch_event(dt_udp *u);
+
 /* --- reading.c */
 dt_status dtu_reading_open(dt_udp *u);
 void dtu_reading_close(dt_udp *u);
 void dtu_read_socket(dt_udp *u, int wait_ms);
 bool dtu_is_from(struct peer *peer, const struct address *from);
 bool dtu_pass_in(dt_udp *u, const struct arrival *arrival);
+void dtu_take_frame(dt_udp *u, struct peer *peer, const struct arrival *arrival);
 
 /* --- writing.c */
 dt_status dtu_writing_open(dt_udp *u);

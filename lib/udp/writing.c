@@ -97,8 +97,7 @@ static void move_behind(dt_udp *u) {
     u->out.count = kept;
 }
 
-/* Takes frames from the node, as many as are sent at once. False: none waits any more. (A trailer would be written
- * behind each frame here, into the TRAILER octets of its room.) */
+/* Takes frames from the node, as many as are sent at once, and writes their trailers. False: none waits any more. */
 static bool gather(dt_udp *u, unsigned *parts) {
     uint32_t to;
     u->out.count = *parts = 0;
@@ -112,6 +111,7 @@ static bool gather(dt_udp *u, unsigned *parts) {
             continue;
         }
         (*parts)++;
+        dtu_watch_stamp(u, peer, part);
         add(u, peer, part);
     }
     return true;

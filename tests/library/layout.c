@@ -174,4 +174,27 @@ AT(dt_network, room, 36);
 AT(dt_network, wait_ms, 40);
 AT(dt_network, shelf, 44);
 
+SIZE(dt_watch_options, 48);
+AT(dt_watch_options, size, 0);
+AT(dt_watch_options, fingerprint, 4);
+AT(dt_watch_options, now, 8);
+AT(dt_watch_options, gap, 16);
+AT(dt_watch_options, most, 24);
+AT(dt_watch_options, drift, 32);
+AT(dt_watch_options, grain, 36);
+AT(dt_watch_options, segment, 40);
+AT(dt_watch_options, reserved, 44);
+
+SIZE(dt_passage, 24);
+AT(dt_passage, made, 0);
+AT(dt_passage, sure, 8);
+AT(dt_passage, came, 16);
+
+SIZE(dt_arrival, 32);
+AT(dt_arrival, opening, 0);
+AT(dt_arrival, sure, 8);
+AT(dt_arrival, came, 16);
+AT(dt_arrival, fingerprint, 24);
+AT(dt_arrival, is_frame, 28);
+
 int main(void) { return 0; }

@@ -41,7 +41,7 @@ static void begin(struct client *it, uint32_t node, const char *port, int many) 
                                      .life = 1,
                                      .params = &(struct dt_params){
                                          .size = sizeof(struct dt_params), .mpl = 482, .r = 2000, .a = 5,
-                                         .rto = 90, .probe = 180, .seg = 1442, .cap = 65536, .rcap = 65536,
+                                         .rto = 90, .probe = 180, .seg = 1408, .cap = 65536, .rcap = 65536,
                                          .window = 65536, .run_limit = 2147483648u, .start = 0},
                                      .start_as = DT_UDP_START_FIRST,
                                      .flags = DT_UDP_FLAG_WITHOUT_SEGMENTS};

@@ -277,7 +277,7 @@ static dt_udp *opened(struct end *it) {
         .port = word(it, "port", NULL),
         .params = &(struct dt_params){
             .size = sizeof(struct dt_params), .mpl = 482, .r = number(it, "r", 450), .a = 5, .rto = 90,
-            .probe = 180, .seg = number(it, "seg", 1442), .cap = 65536, .rcap = 65536, .window = 65536,
+            .probe = 180, .seg = number(it, "seg", 1408), .cap = 65536, .rcap = 65536, .window = 65536,
             .run_limit = 2147483648u, .start = 0},
         .charge = 294,
         .state = word(it, "state", NULL),
@@ -312,6 +312,10 @@ static void tell(const struct end *it) {
            " challenges %" PRIu64 "\n",
            c->reads, c->writes, c->datagrams_in, c->datagrams_out, c->unknown, c->not_sent, c->too_big, c->clock_steps,
            c->peers_learnt, c->peers_moved, c->peers_forgotten, c->challenges_out);
+    printf("plain %" PRIu64 " old %" PRIu64 " ages_unknown %" PRIu64 " parameters %" PRIu64 " clocks %" PRIu64
+           " former %" PRIu64 " early %" PRIu64 " proved %" PRIu64 " asked %" PRIu64 " asks %" PRIu64 "\n",
+           c->without_trailer, c->too_old, c->ages_unknown, c->other_parameters, c->clock_alarms, c->former_openings,
+           c->early_openings, c->openings_proved, c->pings_in, c->pings_out);
 }
 
 int main(int count, char **words) {

@@ -20,7 +20,7 @@ static dt_udp *opened(uint32_t node, const char *port, uint32_t peer, const char
                                      .role = DT_UDP_ROLE_SERVICE,
                                      .params = &(struct dt_params){
                                          .size = sizeof(struct dt_params), .mpl = 482, .r = 450, .a = 5,
-                                         .rto = 90, .probe = 180, .seg = 1442, .cap = 65536, .rcap = 65536,
+                                         .rto = 90, .probe = 180, .seg = 1408, .cap = 65536, .rcap = 65536,
                                          .window = 65536, .run_limit = 2147483648u, .start = 0},
                                      .charge = 294,
                                      .start_as = DT_UDP_START_FIRST,

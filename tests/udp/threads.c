@@ -25,7 +25,7 @@ static dt_udp *opened(uint32_t node, uint8_t kind, uint16_t port) {
         .life = 1,
         .params = &(struct dt_params){
             .size = sizeof(struct dt_params), .mpl = 482, .r = 3000, .a = 5, .rto = 90, .probe = 180,
-            .seg = 1442, .cap = 65536, .rcap = 65536, .window = 65536, .run_limit = 2147483648u,
+            .seg = 1408, .cap = 65536, .rcap = 65536, .window = 65536, .run_limit = 2147483648u,
             .start = 0}, .start_as = DT_UDP_START_FIRST,
         .max_peers = node == 2};
     struct dt_udp_error error;

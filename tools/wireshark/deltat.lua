@@ -5,6 +5,9 @@
 -- set to Delta-t ("Decode As", `tshark -d udp.port==4001,deltat`), octets that don't read are shown too,
 -- with the fault that a node's `bad` line has for them.
 --
+-- Behind a frame the trailer of the driver's watch is shown, where there is one; at a port that is set to Delta-t
+-- its pings and pongs too.
+--
 -- The preference `mpl` (`-o deltat.mpl:1000`) marks the packets whose life is above it: their makers
 -- have other parameters.
 
@@ -12,6 +15,8 @@ local proto = Proto("deltat", "Delta-t")
 
 local HEAD, PACKET_HEAD = 16, 14
 local DATA, ACK, RENDEZVOUS, CLOSING = 1, 2, 3, 4
+local TRAILER, BARE = 34, 4
+local TRAILER_KINDS = { [1] = "frame", [2] = "ping", [3] = "pong" }
 local KINDS = { [DATA] = "data", [ACK] = "ack", [RENDEZVOUS] = "rendezvous", [CLOSING] = "closing" }
 local NUMBERS = 4294967296
 
@@ -49,6 +54,20 @@ local fields = {
   acked_in = ProtoField.framenum("deltat.acked_in", "Acknowledged in", base.NONE, frametype.ACK),
   acks = ProtoField.framenum("deltat.acks", "Acknowledges the data of", base.NONE, frametype.ACK),
   acked_after = ProtoField.relative_time("deltat.acked_after", "Time since that data first went"),
+  trailer = ProtoField.bytes("deltat.trailer", "Trailer"),
+  print = ProtoField.uint32("deltat.trailer.print", "Fingerprint", base.HEX),
+  opening = ProtoField.uint64("deltat.trailer.opening", "Opening", base.HEX),
+  trailer_version = ProtoField.uint8("deltat.trailer.version", "Version", base.DEC, nil, 240),
+  trailer_kind = ProtoField.uint8("deltat.trailer.kind", "Kind", base.DEC, TRAILER_KINDS, 15),
+  round = ProtoField.uint8("deltat.trailer.round", "Round"),
+  made = ProtoField.uint64("deltat.trailer.made", "Made (us)"),
+  sure = ProtoField.uint64("deltat.trailer.sure", "Surely passed (us)"),
+  of = ProtoField.uint16("deltat.trailer.of", "Of the opening", base.HEX),
+  aged = ProtoField.uint16("deltat.trailer.aged", "Age heard (64 us)"),
+  rounded = ProtoField.uint8("deltat.trailer.rounded", "Round heard"),
+  wall = ProtoField.uint24("deltat.trailer.wall", "Wall clock (ms)"),
+  heard = ProtoField.uint16("deltat.trailer.heard", "Datagrams heard"),
+  maker = ProtoField.uint32("deltat.trailer.maker", "Node"),
 }
 proto.fields = {}
 for _, field in pairs(fields) do table.insert(proto.fields, field) end
@@ -218,6 +237,46 @@ local function show_values(octets, pinfo, tree)
   pinfo.cols.info = info_of(packet, mark)
 end
 
+-- The places of a trailer, and how many octets each field has.
+local PLACES = {
+  { "print", 0, 4 }, { "opening", 4, 6 }, { "trailer_version", 10, 1 }, { "trailer_kind", 10, 1 }, { "round", 11, 1 },
+  { "made", 12, 6 }, { "sure", 18, 6 }, { "of", 24, 2 }, { "aged", 26, 2 }, { "rounded", 28, 1 }, { "wall", 29, 3 },
+  { "heard", 32, 2 },
+}
+
+local function show_trailer(octets, tree)
+  local shown = tree:add(fields.trailer, octets)
+  for _, place in ipairs(PLACES) do shown:add(fields[place[1]], octets(place[2], place[3])) end
+end
+
+-- Whether the octets end with a trailer; and whether nothing but the number of a node is before it.
+local function has_trailer(octets)
+  local count = octets:reported_len()
+  if octets:len() < count or count < BARE + TRAILER then return false, false end
+  local at = count - TRAILER
+  local kind = octets(at + 10, 1):uint() - 16
+  if not TRAILER_KINDS[kind] or octets(at + 4, 6):uint64() == UInt64(0) then return false, false end
+  return true, count == BARE + TRAILER and kind > 1
+end
+
+-- The octets of a frame before its trailer, and those of the trailer; nil where there is none or they don't read.
+local function parts_of(octets)
+  if not has_trailer(octets) then return nil end
+  local count = octets:reported_len() - TRAILER
+  local frame = octets(0, count):tvb()
+  if fault_of(frame) then return nil end
+  return frame, octets(count, TRAILER)
+end
+
+local function show_bare(octets, pinfo, parent)
+  local tree = parent:add(proto, octets())
+  local kind = TRAILER_KINDS[octets(BARE + 10, 1):uint() - 16]
+  pinfo.cols.protocol = "Delta-t"
+  pinfo.cols.info = kind .. " of node " .. octets(0, BARE):uint()
+  tree:add(fields.maker, octets(0, BARE))
+  show_trailer(octets(BARE, TRAILER), tree)
+end
+
 local function show(octets, pinfo, parent, fault, cut)
   pinfo.cols.protocol = "Delta-t"
   local tree = parent:add(proto, octets())
@@ -229,25 +288,40 @@ local function show(octets, pinfo, parent, fault, cut)
   elseif cut then
     pinfo.cols.info = "cut off by the capture"
   end
-  if captured < HEAD then return end
+  if captured < HEAD then return tree end
   show_deltagram(octets, tree)
   if captured < HEAD + PACKET_HEAD or octets(1, 1):uint() ~= 1 then
     if captured > HEAD then tree:add(fields.body, octets(HEAD)) end
-    return
+    return tree
   end
   show_packet(octets, tree)
   if not fault then show_values(octets, pinfo, tree) end
+  return tree
+end
+
+-- Shows a frame and its trailer. False: the octets aren't that.
+local function show_both(octets, pinfo, parent)
+  local frame, trailer = parts_of(octets)
+  if not frame then return false end
+  show_trailer(trailer, show(frame, pinfo, parent, nil, false))
+  return true
 end
 
 function proto.dissector(octets, pinfo, tree)
   local fault, cut = fault_of(octets)
-  show(octets, pinfo, tree, fault, cut)
+  local _, bare = has_trailer(octets)
+  if bare then
+    show_bare(octets, pinfo, tree)
+  elseif not fault or not show_both(octets, pinfo, tree) then
+    show(octets, pinfo, tree, fault, cut)
+  end
   return octets:len()
 end
 
 proto:register_heuristic("udp", function(octets, pinfo, tree)
   local fault, cut = fault_of(octets)
-  if fault or cut then return false end
+  if cut then return false end
+  if fault then return show_both(octets, pinfo, tree) end
   show(octets, pinfo, tree, nil, false)
   return true
 end)

@@ -126,6 +126,16 @@ class Cause(enum.IntEnum):
     STOPPED = 3
 
 
+class Judgement(enum.IntEnum):
+    """`enum dt_judgement`."""
+
+    PRESENT = 32
+    UNPROVED = 33
+    FORMER = 34
+    EARLY = 35
+    OTHER_PARAMETERS = 36
+
+
 class Flow(ctypes.Structure):
     """`struct dt_flow`."""
 
@@ -403,6 +413,44 @@ class Network(ctypes.Structure):
     ]
 
 
+class WatchOptions(ctypes.Structure):
+    """`struct dt_watch_options`."""
+
+    _fields_ = [
+        ("size", ctypes.c_uint32),
+        ("fingerprint", ctypes.c_uint32),
+        ("now", ctypes.c_uint64),
+        ("gap", ctypes.c_uint64),
+        ("most", ctypes.c_uint64),
+        ("drift", ctypes.c_uint32),
+        ("grain", ctypes.c_uint32),
+        ("segment", ctypes.c_uint32),
+        ("reserved", ctypes.c_uint32),
+    ]
+
+
+class Passage(ctypes.Structure):
+    """The readings of a datagram."""
+
+    _fields_ = [
+        ("made", ctypes.c_uint64),
+        ("sure", ctypes.c_uint64),
+        ("came", ctypes.c_uint64),
+    ]
+
+
+class Arrival(ctypes.Structure):
+    """A datagram, as its trailer describes it."""
+
+    _fields_ = [
+        ("opening", ctypes.c_uint64),
+        ("sure", ctypes.c_uint64),
+        ("came", ctypes.c_uint64),
+        ("fingerprint", ctypes.c_uint32),
+        ("is_frame", ctypes.c_uint32),
+    ]
+
+
 # Each function: its result, and its arguments.
 FUNCTIONS: dict[str, tuple[Any, list[Any]]] = {
     "dt_abi_version": (ctypes.c_uint32, []),
@@ -594,6 +642,23 @@ FUNCTIONS: dict[str, tuple[Any, list[Any]]] = {
             ctypes.POINTER(ctypes.c_uint32),
         ],
     ),
+    "dt_watch_size": (ctypes.c_size_t, []),
+    "dt_watch_align": (ctypes.c_size_t, []),
+    "dt_watch_init": (None, [ctypes.c_void_p]),
+    "dt_watch_open": (ctypes.c_uint8, [ctypes.c_void_p, ctypes.POINTER(WatchOptions)]),
+    "dt_watch_begin": (ctypes.c_uint8, [ctypes.c_void_p, ctypes.c_bool, ctypes.c_uint64]),
+    "dt_watch_hear": (ctypes.c_uint8, [ctypes.c_void_p, ctypes.c_bool, ctypes.POINTER(Passage)]),
+    "dt_watch_judge": (ctypes.c_uint8, [ctypes.c_void_p, ctypes.POINTER(Arrival)]),
+    "dt_watch_sure": (ctypes.c_uint64, [ctypes.c_void_p, ctypes.c_bool, ctypes.c_uint64]),
+    "dt_watch_around": (ctypes.c_uint64, [ctypes.c_void_p, ctypes.c_bool, ctypes.c_uint64]),
+    "dt_watch_age": (ctypes.c_uint64, [ctypes.c_void_p, ctypes.c_bool, ctypes.c_uint64, ctypes.c_uint64]),
+    "dt_watch_waited_ms": (ctypes.c_uint32, [ctypes.c_uint64, ctypes.c_uint32]),
+    "dt_watch_window": (ctypes.c_uint64, [ctypes.c_void_p]),
+    "dt_watch_admits": (ctypes.c_uint8, [ctypes.c_void_p, ctypes.c_uint64, ctypes.c_uint64]),
+    "dt_watch_grow": (ctypes.c_uint8, [ctypes.c_void_p, ctypes.c_bool]),
+    "dt_watch_shrink": (ctypes.c_uint8, [ctypes.c_void_p, ctypes.c_uint32]),
+    "dt_watch_aim": (ctypes.c_uint64, [ctypes.c_uint64, ctypes.c_uint64, ctypes.c_uint64]),
+    "dt_watch_cut": (ctypes.c_uint32, [ctypes.c_uint64, ctypes.c_uint64, ctypes.c_uint64]),
 }
 
 Struct = TypeVar("Struct", bound=ctypes.Structure)

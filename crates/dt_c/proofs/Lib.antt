@@ -4,3 +4,4 @@ pub mod Lending
 pub mod Making
 pub mod Parameters
 pub mod Passing
+pub mod Watchings

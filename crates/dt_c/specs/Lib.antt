@@ -4,3 +4,4 @@ pub mod Calls
 pub mod Networks
 pub mod ServiceStructs
 pub mod Serving
+pub mod Watching

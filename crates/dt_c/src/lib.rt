@@ -14,6 +14,10 @@ mod service_slots;
 mod service_structs;
 mod setup_exports;
 mod slots;
+mod watch_calls;
+mod watch_exports;
+mod watch_slots;
+mod watch_structs;
 
 pub use c_structs::{
     BlockedCounts, CFlow, CLink, CParams, CReport, CRoute, Datagram, FlowCounts, Message,
@@ -23,3 +27,5 @@ pub use networks::CNetwork;
 pub use service_slots::{ServiceHandle, ServiceSlot};
 pub use service_structs::{CCallCounts, CToken, CallResult, Event, ReplyResult, ServiceOptions};
 pub use slots::{Handle, Slot};
+pub use watch_slots::{WatchHandle, WatchSlot};
+pub use watch_structs::{CArrival, CPassage, WatchOptions};

@@ -8,7 +8,7 @@ use Rattle.dt_watch.specs.declared.readings.Bound.{Bound}
 use Rattle.dt_watch.specs.declared.lower.Lower.{Lower}
 use Rattle.dt_watch.specs.Drift.{drift_over}
 use Rattle.dt_watch.specs.Clocks.{GoTogether, HadPassed, WasHeard}
-use Rattle.dt_watch.specs.Lower.{aged_down, is_higher, kept_lower, kept_of, lower_at, most_passed, passed, passed_by, turned}
+use Rattle.dt_watch.specs.Lower.{aged_down, around, around_by, before_by, is_higher, kept_lower, kept_of, lower_around, lower_at, most_passed, passed, passed_by, turned}
 use Rattle.dt_watch.specs.LowerRuns.{HadAllPassed, InOrder, WereHeard, lower_by, new_lower}
 use Rattle.dt_watch.proofs.Drifting.{drift_joined, drift_of_nothing, drift_parted, drift_within}
 
@@ -115,6 +115,34 @@ true_later b clock other e t together had =
       | inr after ↦ let says = later_says b e (other t) after in let is_true = true_after b clock other e t together had after in omega (arith, says, is_true)
     ]
 
+-- A TRUE BOUND is true of sooner readings, too
+true_before : (b : ClockBounds) (clock other : ℕ → ℕ) (e : Bound) (t : ℕ) → GoTogether b clock other → HadPassed clock other e → other t < e.at.micros → before_by b e (other t) ≤ clock t
+true_before b clock other e t together had before =
+    elim (cases_lt t had.moment) [
+      | inl sooner ↦
+          let most = together.most t had.moment (omega arith) in
+          let onward = together.other_onward t had.moment (omega arith) in
+          let same : drift_over b.drift (other had.moment - other t) ≡ drift_over b.drift (e.at.micros - other t) = ap (λ (n : ℕ). drift_over b.drift (n - other t)) had.at in
+          omega (arith, most, onward, same, had.at, had.passed)
+      | inr later ↦
+          let onward = together.other_onward had.moment t later in
+          omega (arith, onward, had.at, before)
+    ]
+
+-- what a bound says around its reading, as what it says later where that is no sooner
+around_test : (b : ClockBounds) (e : Bound) (now : ℕ) → e.at.micros ≤ now → around_by b e now ≡ passed_by b e now
+around_test b e now later = grind (arith, nat_tests)
+
+before_test : (b : ClockBounds) (e : Bound) (now : ℕ) → now < e.at.micros → around_by b e now ≡ before_by b e now
+before_test b e now before = grind (arith, nat_tests)
+
+pub true_around : (b : ClockBounds) (clock other : ℕ → ℕ) (e : Bound) (t : ℕ) → GoTogether b clock other → HadPassed clock other e → around_by b e (other t) ≤ clock t
+true_around b clock other e t together had =
+    elim (cases_lt (other t) e.at.micros) [
+      | inl before ↦ let says = before_test b e (other t) before in let is_true = true_before b clock other e t together had before in omega (arith, says, is_true)
+      | inr after ↦ let says = around_test b e (other t) after in let is_true = true_later b clock other e t together had in omega (arith, says, is_true)
+    ]
+
 -- A STAMP THAT WAS HEARD had passed then
 pub heard_had_passed : (b : ClockBounds) (clock other : ℕ → ℕ) (e : Bound) → GoTogether b clock other → WasHeard clock other e → HadPassed clock other e
 heard_had_passed b clock other e together heard =
@@ -129,6 +157,10 @@ Holds clock other (Some e) = HadPassed clock other e
 pub held_is_passed : (b : ClockBounds) (clock other : ℕ → ℕ) (kept : Option Bound) (t : ℕ) → GoTogether b clock other → Holds clock other kept → passed b kept (other t) ≤ clock t
 held_is_passed b clock other None t together holds = omega arith
 held_is_passed b clock other (Some e) t together holds = true_later b clock other e t together holds
+
+held_is_around : (b : ClockBounds) (clock other : ℕ → ℕ) (kept : Option Bound) (t : ℕ) → GoTogether b clock other → Holds clock other kept → around b kept (other t) ≤ clock t
+held_is_around b clock other None t together holds = omega arith
+held_is_around b clock other (Some e) t together holds = true_around b clock other e t together holds
 
 turn_holds : (clock other : ℕ → ℕ) (present former : Option Bound) → Holds clock other present → Holds clock other former → Holds clock other (turned present former)
 turn_holds clock other None former one two = two
@@ -157,3 +189,14 @@ all_heard b clock other (Some e ∷ seen) together heard = (heard_had_passed b c
 
 pub sure_had_passed : (b : ClockBounds) (clock other : ℕ → ℕ) (seen : List (Option Bound)) (t : ℕ) → GoTogether b clock other → WereHeard clock other seen → lower_at (lower_by (new_lower b) seen) (other t) ≤ clock t
 sure_had_passed b clock other seen t together heard = run_had_passed clock other (new_lower b) seen t together tt tt (all_heard b clock other seen together heard)
+
+run_had_passed_around : (clock other : ℕ → ℕ) (l : Lower) (seen : List (Option Bound)) (t : ℕ) → GoTogether l.bounds clock other → Holds clock other l.present → Holds clock other l.former → HadAllPassed clock other seen → lower_around (lower_by l seen) (other t) ≤ clock t
+run_had_passed_around clock other l [] t together one two had =
+    let present = held_is_around l.bounds clock other l.present t together one in
+    let former = held_is_around l.bounds clock other l.former t together two in
+    omega (arith, present, former)
+run_had_passed_around clock other l (None ∷ seen) t together one two had = run_had_passed_around clock other (record l { present = None; former = turned l.present l.former }) seen t together tt (turn_holds clock other l.present l.former one two) had
+run_had_passed_around clock other l (Some e ∷ seen) t together one two had = run_had_passed_around clock other (record l { present = kept_lower l.bounds l.present e }) seen t together (seen_holds l.bounds clock other l.present e one had.0) two had.1
+
+pub had_passed_around : (b : ClockBounds) (clock other : ℕ → ℕ) (seen : List (Option Bound)) (t : ℕ) → GoTogether b clock other → HadAllPassed clock other seen → lower_around (lower_by (new_lower b) seen) (other t) ≤ clock t
+had_passed_around b clock other seen t together had = run_had_passed_around clock other (new_lower b) seen t together tt tt had

@@ -11,3 +11,5 @@ pub mod Governor
 pub mod Openings
 pub mod Former
 pub mod Intervals
+pub mod Clockings
+pub mod Watches

@@ -42,3 +42,18 @@ turned (Some kept) former = Some kept
 -- WHAT THE CLOCK HAS SURELY PASSED, by this span and the one before
 abbrev pub lower_at : Lower → ℕ → ℕ
 lower_at l now = max (passed l.bounds l.present now) (passed l.bounds l.former now)
+
+-- A BOUND SOONER: before its own reading its clock went on with the other one, and the drift of that span more
+abbrev pub before_by : ClockBounds → Bound → ℕ → ℕ
+before_by b e before = e.reading.micros - (e.at.micros - before + (drift_over b.drift (e.at.micros - before) + b.grain))
+
+abbrev pub around_by : ClockBounds → Bound → ℕ → ℕ
+around_by b e now = if nat_lt now e.at.micros then before_by b e now else passed_by b e now
+
+abbrev pub around : ClockBounds → Option Bound → ℕ → ℕ
+around b None now = 0
+around b (Some e) now = around_by b e now
+
+-- WHAT THE CLOCK HAD SURELY PASSED then, at a reading before or after what was seen
+abbrev pub lower_around : Lower → ℕ → ℕ
+lower_around l now = max (around l.bounds l.present now) (around l.bounds l.former now)

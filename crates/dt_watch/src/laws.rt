@@ -6,7 +6,7 @@ ghost use Rattle.dt_watch.specs.declared.readings.Bound.{Bound};
 ghost use Rattle.dt_watch.specs.Ages.{IsMade, age_of, waited_of};
 ghost use Rattle.dt_watch.specs.Clocks.{GoTogether, HadNotPassed, HadPassed, KeepsRate, WasHeard};
 ghost use Rattle.dt_watch.specs.Drift.{drift_over};
-ghost use Rattle.dt_watch.specs.Lower.{aged_down, kept_of, lower_at, most_passed, passed};
+ghost use Rattle.dt_watch.specs.Lower.{aged_down, kept_of, lower_around, lower_at, most_passed, passed};
 ghost use Rattle.dt_watch.specs.LowerRuns.{HadAllPassed, InOrder, WereHeard, lower_by, new_lower};
 ghost use Rattle.dt_watch.specs.Stops.{Came, RestsOn, unstopped};
 ghost use Rattle.dt_watch.specs.Upper.{aged_up, upper_at};
@@ -31,6 +31,13 @@ pub fn one_bound_is_enough()
 #[tactic(auto, using(crate::proofs::Lowest::sure_had_passed))]
 pub fn sure_had_passed()
     ensures { (b : ClockBounds) (clock other : ℕ → ℕ) (seen : List (Option Bound)) (t : ℕ) → GoTogether b clock other → WereHeard clock other seen → lower_at (lower_by (new_lower b) seen) (other t) ≤ clock t }
+{}
+
+/// WHAT IS SAID OF A SOONER READING, TOO: where the two clocks go together and each bound is true, the clock had
+/// passed what it says of any moment, before the bounds or after.
+#[tactic(auto, using(crate::proofs::Lowest::had_passed_around))]
+pub fn had_passed_around()
+    ensures { (b : ClockBounds) (clock other : ℕ → ℕ) (seen : List (Option Bound)) (t : ℕ) → GoTogether b clock other → HadAllPassed clock other seen → lower_around (lower_by (new_lower b) seen) (other t) ≤ clock t }
 {}
 
 /// NO FALSE ALARM: where the two clocks go together and each bound is true, what was surely not passed is

@@ -4,6 +4,7 @@
 mod ages;
 mod arrivals;
 mod clock_bounds;
+mod clocks;
 mod governor;
 mod interval;
 mod laws;
@@ -13,19 +14,21 @@ mod openings;
 mod readings;
 mod routes;
 mod upper;
+mod watches;
 mod widths;
 mod windows;
 
 pub use ages::{age, waited_ms};
 pub use arrivals::{Arrival, Judgement, Opening};
 pub use clock_bounds::ClockBounds;
+pub use clocks::{Clocks, Spans};
 pub use governor::{aim, cut};
 pub use interval::{Interval, Passage};
 pub use laws::{
     age_counts_stops, alarm_means_a_broken_clock, clocks_that_keep_their_rates_go_together,
-    datagram_is_no_older_than_charge_and_wait, no_alarm_bounds_stops_by_the_flights,
-    one_bound_is_enough, sure_had_passed, sure_rests_on_its_stamp,
-    width_bounds_stops_of_the_receiver, width_bounds_stops_of_the_sender,
+    datagram_is_no_older_than_charge_and_wait, had_passed_around,
+    no_alarm_bounds_stops_by_the_flights, one_bound_is_enough, sure_had_passed,
+    sure_rests_on_its_stamp, width_bounds_stops_of_the_receiver, width_bounds_stops_of_the_sender,
 };
 pub use lower::Lower;
 pub use opening_laws::{
@@ -36,6 +39,7 @@ pub use openings::Openings;
 pub use readings::{Bound, Reading};
 pub use routes::Route;
 pub use upper::Upper;
+pub use watches::Watch;
 pub use widths::Widths;
 pub use windows::Window;
 

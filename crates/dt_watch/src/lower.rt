@@ -16,7 +16,7 @@ pub struct Lower {
 }
 
 impl Lower {
-    ghost use Rattle.dt_watch.specs.Lower.{kept_lower, lower_at, passed, turned};
+    ghost use Rattle.dt_watch.specs.Lower.{kept_lower, lower_around, lower_at, passed, turned};
 
     /// Nothing was seen.
     pub fn new(bounds: ClockBounds) -> Lower
@@ -64,9 +64,20 @@ impl Lower {
         let former = passed_of(&self.bounds, &self.former, now);
         present.max(former)
     }
+
+    /// What the clock had surely passed where the other one read `then`, before or after what was seen, in
+    /// microseconds: below 2^49, and 0 where nothing is known.
+    pub fn around(&self, then: Reading) -> u64
+        ensures value { result ≡ lower_around self.now then.micros }
+        ensures most { result < 2 ^ 49 }
+    {
+        let present = around_of(&self.bounds, &self.present, then);
+        let former = around_of(&self.bounds, &self.former, then);
+        present.max(former)
+    }
 }
 
-ghost use Rattle.dt_watch.specs.Lower.{aged_down, is_higher, passed, passed_by};
+ghost use Rattle.dt_watch.specs.Lower.{aged_down, around, around_by, before_by, is_higher, passed, passed_by};
 
 /// What the bound's clock had passed when the other one read `now`, beside the grain.
 fn aged_down(bounds: &ClockBounds, bound: &Bound, now: Reading) -> u64
@@ -103,6 +114,40 @@ fn passed_of(bounds: &ClockBounds, bound: &Option<Bound>, now: Reading) -> u64
 {
     match bound {
         Some(bound) => passed_by(bounds, bound, now),
+        None => 0,
+    }
+}
+
+/// What the bound's clock had passed when the other one read `then`, at its own reading or before.
+fn before_by(bounds: &ClockBounds, bound: &Bound, then: Reading) -> u64
+    requires { then.micros ≤ bound.now.at.micros }
+    ensures value { result ≡ before_by bounds.now bound.now then.micros }
+    ensures most { result < 2 ^ 49 }
+{
+    let span = bound.at.micros - then.micros;
+    let drift = bounds.drift_over(span) + u64::from(bounds.grain);
+    bound.reading.micros.saturating_sub(span + drift)
+}
+
+/// What a bound says of a reading of the other clock, before or after its own.
+fn around_by(bounds: &ClockBounds, bound: &Bound, then: Reading) -> u64
+    ensures value { result ≡ around_by bounds.now bound.now then.micros }
+    ensures most { result < 2 ^ 49 }
+{
+    if then.micros < bound.at.micros {
+        before_by(bounds, bound, then)
+    } else {
+        passed_by(bounds, bound, then)
+    }
+}
+
+/// The same of a bound that there may not be.
+fn around_of(bounds: &ClockBounds, bound: &Option<Bound>, then: Reading) -> u64
+    ensures value { result ≡ around bounds.now bound.now then.micros }
+    ensures most { result < 2 ^ 49 }
+{
+    match bound {
+        Some(bound) => around_by(bounds, bound, then),
         None => 0,
     }
 }

@@ -170,6 +170,18 @@ pub const DT_CAUSE_TIMEOUT: u8 = 2;
 /// the service stopped
 pub const DT_CAUSE_STOPPED: u8 = 3;
 
+// `enum dt_judgement`: what dt_watch_judge returns
+/// of the present opening
+pub const DT_JUDGED_PRESENT: u8 = 32;
+/// of one that hasn't proved that it is the latest: ask it
+pub const DT_JUDGED_UNPROVED: u8 = 33;
+/// of one before the present one: drop it
+pub const DT_JUDGED_FORMER: u8 = 34;
+/// a frame too soon after the last one of the opening before: drop it
+pub const DT_JUDGED_EARLY: u8 = 35;
+/// drop it
+pub const DT_JUDGED_OTHER_PARAMETERS: u8 = 36;
+
 /// A status: one of the constants of `enum dt_status_code`.
 pub type dt_status = u8;
 
@@ -183,6 +195,13 @@ pub struct dt_node {
 /// A handle. Its octets are the library's.
 #[repr(C)]
 pub struct dt_service {
+    _data: [u8; 0],
+    _marker: PhantomData<(*mut u8, PhantomPinned)>,
+}
+
+/// A handle. Its octets are the library's.
+#[repr(C)]
+pub struct dt_watch {
     _data: [u8; 0],
     _marker: PhantomData<(*mut u8, PhantomPinned)>,
 }
@@ -926,6 +945,116 @@ impl Default for dt_network {
     }
 }
 
+#[repr(C)]
+#[derive(Clone, Copy, Debug, PartialEq, Eq, Hash)]
+pub struct dt_watch_options {
+    pub size: u32,
+    /// the first four octets of dt_params_fingerprint
+    pub fingerprint: u32,
+    /// a reading
+    pub now: u64,
+    /// for how long after the last frame of an opening of the peer none of the next one is taken:
+    /// dt_params_quiet_ms less mpl, in microseconds
+    pub gap: u64,
+    /// octets that may be under way: 8 segments to 2^40 - 1
+    pub most: u64,
+    /// how far two clocks go apart: half of how many parts in a million of a span, 0 to 1,000. Clocks within d
+    /// parts of the true time: d + 1
+    pub drift: u32,
+    /// and microseconds more, 0 to 1,000,000: three steps of a clock
+    pub grain: u32,
+    /// octets of a segment
+    pub segment: u32,
+    pub reserved: u32,
+}
+
+impl dt_watch_options {
+    /// All fields 0, and `size` as it has to be.
+    pub const fn new() -> Self {
+        Self {
+            size: core::mem::size_of::<Self>() as u32,
+            fingerprint: 0,
+            now: 0,
+            gap: 0,
+            most: 0,
+            drift: 0,
+            grain: 0,
+            segment: 0,
+            reserved: 0,
+        }
+    }
+}
+
+impl Default for dt_watch_options {
+    fn default() -> Self {
+        Self::new()
+    }
+}
+
+/// the readings of a datagram
+#[repr(C)]
+#[derive(Clone, Copy, Debug, PartialEq, Eq, Hash)]
+pub struct dt_passage {
+    /// its sender's, when it was made
+    pub made: u64,
+    /// the receiver's that had surely passed then; 0: not known
+    pub sure: u64,
+    /// the receiver's, when it came
+    pub came: u64,
+}
+
+impl dt_passage {
+    /// All fields 0.
+    pub const fn new() -> Self {
+        Self {
+            made: 0,
+            sure: 0,
+            came: 0,
+        }
+    }
+}
+
+impl Default for dt_passage {
+    fn default() -> Self {
+        Self::new()
+    }
+}
+
+/// a datagram, as its trailer describes it
+#[repr(C)]
+#[derive(Clone, Copy, Debug, PartialEq, Eq, Hash)]
+pub struct dt_arrival {
+    /// names its sender's opening, as no other opening of that node is named
+    pub opening: u64,
+    /// as in dt_passage
+    pub sure: u64,
+    /// as in dt_passage
+    pub came: u64,
+    /// its sender's
+    pub fingerprint: u32,
+    /// 0: it carries no frame
+    pub is_frame: u32,
+}
+
+impl dt_arrival {
+    /// All fields 0.
+    pub const fn new() -> Self {
+        Self {
+            opening: 0,
+            sure: 0,
+            came: 0,
+            fingerprint: 0,
+            is_frame: 0,
+        }
+    }
+}
+
+impl Default for dt_arrival {
+    fn default() -> Self {
+        Self::new()
+    }
+}
+
 extern "C" {
     /// Returns the interface version of the library. Compare it with DT_ABI_VERSION first.
     pub fn dt_abi_version() -> u32;
@@ -1382,4 +1511,80 @@ extern "C" {
         params: *mut dt_params,
         charge: *mut u32,
     ) -> dt_status;
+
+    pub fn dt_watch_size() -> usize;
+
+    pub fn dt_watch_align() -> usize;
+
+    /// Makes a handle that isn't open, of fresh memory.
+    pub fn dt_watch_init(watch: *mut dt_watch);
+
+    /// Opens a handle, or opens it anew: nothing is known of the peer.
+    ///
+    /// - `DT_OK`
+    /// - `DT_INVALID`: an option is out of its range; nothing changed
+    pub fn dt_watch_open(watch: *mut dt_watch, options: *const dt_watch_options) -> dt_status;
+
+    /// Forgets what is known of one of two openings: its first datagram comes. The caller knows which of the two,
+    /// the first or the `second`, is which.
+    ///
+    /// - `DT_OK`
+    ///
+    /// DT_NOT_OPEN, DT_INVALID nothing changed
+    pub fn dt_watch_begin(watch: *mut dt_watch, second: bool, came: u64) -> dt_status;
+
+    /// Takes the readings of a datagram of that opening, also of one that is dropped later. After 30 s in which
+    /// none came, what was known before is forgotten.
+    ///
+    /// - `DT_OK`
+    /// - `DT_NONE`: the readings can't all be true: a clock stood, was set or drifts by more than `drift`. From now
+    ///   on nothing of this opening may be believed
+    ///
+    /// DT_NOT_OPEN, DT_INVALID nothing changed
+    pub fn dt_watch_hear(
+        watch: *mut dt_watch,
+        second: bool,
+        passage: *const dt_passage,
+    ) -> dt_status;
+
+    /// Judges a datagram by its opening: returns an enum dt_judgement, DT_NOT_OPEN or DT_INVALID. An opening
+    /// becomes the present one if its datagram has a later `sure` than any of the one before had.
+    pub fn dt_watch_judge(watch: *mut dt_watch, arrival: *const dt_arrival) -> dt_status;
+
+    /// Returns what the peer's clock had surely passed when this one read `made`: what a datagram to it has as
+    /// `sure`. 0: nothing is known, or for 24 s nothing came.
+    pub fn dt_watch_sure(watch: *mut dt_watch, second: bool, made: u64) -> u64;
+
+    /// Returns what this clock had surely passed when the peer's read `then`: for a datagram that had no `sure`,
+    /// after others had. 0: nothing is known.
+    pub fn dt_watch_around(watch: *mut dt_watch, second: bool, then: u64) -> u64;
+
+    /// Returns how old a datagram is at most that is handed in at the reading `came`, in microseconds, stops of
+    /// clocks that weren't seen included. DT_NEVER: `sure` is later than `came`.
+    pub fn dt_watch_age(watch: *mut dt_watch, second: bool, came: u64, sure: u64) -> u64;
+
+    /// Returns the `waited_ms` for dt_node_receive that this age means, beside the charge of the link.
+    pub fn dt_watch_waited_ms(age: u64, charge: u32) -> u32;
+
+    /// Returns how many octets may be under way to the peer, handed in and not settled; 0: not open.
+    pub fn dt_watch_window(watch: *mut dt_watch) -> u64;
+
+    /// Returns 1 if a message of so many octets fits into the window beside what is under way, or if nothing is
+    /// under way; else 0.
+    pub fn dt_watch_admits(watch: *mut dt_watch, under_way: u64, octets: u64) -> u8;
+
+    /// Makes the window larger: by half if `fast`, else by a 64th or 8 segments, and up to `most`. Or smaller by so
+    /// many thousandths, 500 at most, and down to 8 segments. DT_OK or DT_NOT_OPEN.
+    pub fn dt_watch_grow(watch: *mut dt_watch, fast: bool) -> dt_status;
+
+    pub fn dt_watch_shrink(watch: *mut dt_watch, thousandths: u32) -> dt_status;
+
+    /// Returns the delay in queues to aim at, in microseconds: a quarter of the least delay `base`, 2 ms at least,
+    /// and at most what is left by `budget`, the longest life of a datagram, and by `resend`, after which a segment
+    /// goes again. 0 if `base` or `resend` is 2^50 or more.
+    pub fn dt_watch_aim(base: u64, budget: u64, resend: u64) -> u64;
+
+    /// Returns by how many thousandths a window shrinks after a round whose delay in queues was above `aim`: 80 to
+    /// 500. 0 if it wasn't, or an argument is 2^50 or more.
+    pub fn dt_watch_cut(queue: u64, base: u64, aim: u64) -> u32;
 }

@@ -1,0 +1,12 @@
+-- `dt_watch_grow` lends what lies at the handle to `WatchSlot::grow`.
+use Rattle.dt_c.proofs.Exports.{exported, status}
+use Rattle.dt_c.proofs.Parameters.{none, truth, ◌&◌}
+use Rattle.dt_c.specs.Watching.{Growing}
+use Rattle.dt_c.specs.contracts.watch_slots.WatchSlot.{the_row as R}
+use Rattle.dt_c.proofs.watch_exports.dt_watch_grow.Statement.{statement}
+use Rattle.dt_c.proofs.watch_exports.dt_watch_grow.Code as code
+use Rattle.dt_c.proofs.watch_slots.WatchSlot.grow.Met.{met}
+
+pub dt_watch_grow_spec : {M : Type 1} → statement M
+dt_watch_grow_spec 𝓤 𝓛 𝓜 𝓡 wired = exported 𝓛 𝓜 𝓡 R (status 𝓛) 0 (λ κs. truth & none)
+    (λ κs a x told h ws. Growing told a.0 x h) (λ κs. tt) (λ κs. code.unfolded 𝓤 𝓛.H 𝓜 𝓡 wired) (met 𝓤 𝓛 𝓜 𝓡 (code.calls-dt_c::watch_slots::WatchSlot::grow 𝓡.env wired))

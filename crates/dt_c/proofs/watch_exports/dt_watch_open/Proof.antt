@@ -1,0 +1,14 @@
+-- `dt_watch_open` lends what lies at the handle to `WatchSlot::open`.
+use mir.Syntax.{named}
+use Rattle.dt_c.proofs.Exports.{exported, status}
+use Rattle.dt_c.proofs.Parameters.{none, shared, ◌&◌}
+use Rattle.dt_c.specs.Watching.{OpeningWatch}
+use Rattle.dt_c.specs.contracts.watch_structs.WatchOptions.{the_row as WatchOptions}
+use Rattle.dt_c.specs.contracts.watch_slots.WatchSlot.{the_row as R}
+use Rattle.dt_c.proofs.watch_exports.dt_watch_open.Statement.{statement}
+use Rattle.dt_c.proofs.watch_exports.dt_watch_open.Code as code
+use Rattle.dt_c.proofs.watch_slots.WatchSlot.open.Met.{met}
+
+pub dt_watch_open_spec : {M : Type 1} → statement M
+dt_watch_open_spec 𝓤 𝓛 𝓜 𝓡 wired = exported 𝓛 𝓜 𝓡 R (status 𝓛) 1 (λ κs. shared (named 0) κs.0 WatchOptions & none)
+    (λ κs a x told h ws. OpeningWatch told a.0.now x h) (λ κs. tt) (λ κs. code.unfolded 𝓤 𝓛.H 𝓜 𝓡 wired) (met 𝓤 𝓛 𝓜 𝓡 (code.calls-dt_c::watch_slots::WatchSlot::open 𝓡.env wired))

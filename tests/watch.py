@@ -1,0 +1,281 @@
+#!/usr/bin/env python3
+"""The watch of the driver: what is late, copied, of other parameters or of a clock that stood is never delivered twice.
+
+`tests/watch.py [--runs N] [CASE ..]`; all cases where none is named, each N times (2 where N isn't given). A client
+makes calls to a service over a relay (tests/watch/relay.c), which delays, copies and keeps datagrams back; the service
+notes each request that is handed out. In each run nothing is handed out twice, and the counter that names the cause has
+counted. Then the same runs without the watch, until one breaks, which it must within three.
+
+  disk     32 KiB pieces on 64 and on 128 flows over a deep queue
+  copies   1 % of the datagrams come a second time, 1 to 5 s later
+  kept     1 % come 1 to 5 s late
+  other_r  the client has another r than the service
+  held     the client is stopped between the making of its frames and the socket
+  again    the service is started again each 2 s, with old packets under way
+  clock    the client's machine and its clock stand for 0.6 s: an alarm
+  drops    no datagram is dropped as too old: --datagrams of them (100,000) on each of three links
+
+Ends with 77 where there is no compiler or no archive.
+
+In tests/all: no words, 900 s."""
+import argparse
+import collections
+import mmap
+import pathlib
+import re
+import shutil
+import signal
+import struct
+import subprocess
+import sys
+import tempfile
+import time
+from collections.abc import Callable
+from typing import NamedTuple
+
+from lib import TOP, free_port, skip
+
+HERE = TOP / "tests" / "watch"
+ARCHIVES = (TOP / "lib" / "libdeltat-udp.a", TOP / "lib" / "libdeltat.a")
+COMPILER = shutil.which("gcc") or shutil.which("clang") or ""
+FLAGS = ("-std=c11", "-D_GNU_SOURCE", "-O2", "-Wall", "-Wextra", "-Werror", f"-I{TOP / 'include'}")
+WRAPPED = "-Wl,--wrap=clock_gettime,--wrap=sendmmsg,--wrap=sendmsg"
+WITHOUT_WATCH = 32
+# how often a run without the watch may pass before the case counts as one that shows nothing
+TRIES = 3
+PATIENCE = 60
+
+
+class Ended(NamedTuple):
+    """What a run left: how many requests were handed out, how many of them twice, and the counters of both ends."""
+
+    handed: int
+    twice: int
+    client: dict[str, int]
+    server: dict[str, int]
+
+    def counted(self, name: str) -> int:
+        return self.client.get(name, 0) + self.server.get(name, 0)
+
+
+class Link(NamedTuple):
+    """A client, a relay and a service: the words of each, and what is done to them meanwhile."""
+
+    relay: dict[str, float]
+    both: dict[str, int]
+    client: dict[str, int]
+    server: dict[str, int] = {}
+    after: float = 0.5  # s, until what was kept back has come
+    restart: float = 0  # s from one start of the service to the next
+    stops: int = 0  # times that the client and its clock stand for 0.6 s
+
+
+def numbers(text: str) -> dict[str, int]:
+    return {name: int(value) for name, value in re.findall(r"(\w+) (\d+)", text)}
+
+
+class Programs:
+    """The programs, compiled into a folder."""
+
+    def __init__(self, folder: pathlib.Path) -> None:
+        self.folder = folder
+        self.made = 0
+        for name, more in (("relay", ()), ("ends", (WRAPPED, *map(str, ARCHIVES)))):
+            words = [COMPILER, *FLAGS, str(HERE / f"{name}.c"), *more, "-o", str(folder / name)]
+            ran = subprocess.run(words, capture_output=True, text=True, check=False)
+            if ran.returncode:
+                sys.exit(f"{' '.join(words)}\n{ran.stderr}")
+
+    def start(self, name: str, *words: str, **keys: object) -> subprocess.Popen[str]:
+        all_words = [str(self.folder / name), *words, *(f"{key}={value}" for key, value in keys.items())]
+        it = subprocess.Popen(all_words, stdout=subprocess.PIPE, text=True)
+        assert it.stdout and it.stdout.readline() == "ready\n", f"{' '.join(all_words)} doesn't start"
+        return it
+
+
+def ended(it: subprocess.Popen[str]) -> dict[str, int]:
+    it.send_signal(signal.SIGTERM)
+    said, _ = it.communicate(timeout=PATIENCE)
+    return numbers(said)
+
+
+def requests(log: pathlib.Path) -> tuple[int, int]:
+    """How many requests were handed out, and how many of them had been before."""
+    octets = log.read_bytes() if log.exists() else b""
+    seen = collections.Counter(it for (it,) in struct.iter_unpack("<Q", octets[: len(octets) // 8 * 8]))
+    return seen.total(), seen.total() - len(seen)
+
+
+class Run:
+    """One run of a link."""
+
+    def __init__(self, programs: Programs, link: Link, flags: int, seed: int) -> None:
+        self.programs, self.link, self.flags, self.seed = programs, link, flags, seed
+        self.log = programs.folder / f"log-{seed}"
+        self.clock = programs.folder / f"clock-{seed}"
+        self.ports = [free_port() for _ in range(4)]
+        self.lives = 0
+        self.counts: collections.Counter[str] = collections.Counter()
+
+    def serve(self) -> subprocess.Popen[str]:
+        self.lives += 1
+        return self.programs.start(
+            "ends", "serve", port=self.ports[3], peer_port=self.ports[2], flags=self.flags, log=self.log,
+            life=self.lives, again=int(self.lives > 1), **{**self.link.both, **self.link.server},
+        )
+
+    def ask(self) -> subprocess.Popen[str]:
+        self.clock.write_bytes(bytes(4096))
+        return self.programs.start(
+            "ends", "ask", port=self.ports[0], peer_port=self.ports[1], flags=self.flags, run=self.seed,
+            clock=self.clock, **{**self.link.both, **self.link.client},
+        )
+
+    def stand(self, client: subprocess.Popen[str]) -> None:
+        """The client's machine stands, and its clock too."""
+        client.send_signal(signal.SIGSTOP)
+        time.sleep(0.6)
+        with self.clock.open("r+b") as file, mmap.mmap(file.fileno(), 4096) as room:
+            room[:8] = struct.pack("<q", struct.unpack("<q", room[:8])[0] + 600_000_000)
+        client.send_signal(signal.SIGCONT)
+
+    def watch(self, client: subprocess.Popen[str], server: subprocess.Popen[str]) -> subprocess.Popen[str]:
+        """Waits for the client. What stopped itself goes on after 0.4 s; the service is started again."""
+        begun = restarted = time.monotonic()
+        stops = 0
+        while client.poll() is None and time.monotonic() - begun < PATIENCE:
+            if self.link.client.get("held") and is_stopped(client.pid):
+                time.sleep(0.4)
+                client.send_signal(signal.SIGCONT)
+            if self.link.restart and time.monotonic() - restarted > self.link.restart:
+                self.counts.update(ended(server))
+                server, restarted = self.serve(), time.monotonic()
+            if stops < self.link.stops and time.monotonic() - begun > 1 + 0.9 * stops:
+                stops += 1
+                self.stand(client)
+            time.sleep(0.01)
+        return server
+
+    def __call__(self) -> Ended:
+        a, to_a, b, to_b = self.ports[1], self.ports[0], self.ports[2], self.ports[3]
+        relay = self.programs.start("relay", a=a, b=b, to_a=to_a, to_b=to_b, seed=self.seed, **self.link.relay)
+        server = self.serve()
+        client = self.ask()
+        try:
+            server = self.watch(client, server)
+            client_says = ended(client)
+            time.sleep(self.link.after)
+            self.counts.update(ended(server))
+            ended(relay)
+        finally:
+            for it in (relay, server, client):
+                it.kill()
+        return Ended(*requests(self.log), client_says, dict(self.counts))
+
+
+def is_stopped(pid: int) -> bool:
+    try:
+        return pathlib.Path(f"/proc/{pid}/stat").read_text().rpartition(")")[2].split()[0] == "T"
+    except OSError:
+        return False
+
+
+# --- the cases
+
+QUICK = {"mpl": 60, "r": 100, "rto": 10, "charge": 44}
+SMALL = {"flows": 8, "depth": 2, "octets": 1000, "seconds": 4}
+DISK = {"mpl": 49, "r": 50, "rto": 5, "charge": 42}
+DEEP: dict[str, float] = {"delay": 1000, "rate": 100, "queue": 40_000_000}
+
+
+def disk(flows: int) -> Link:
+    return Link(DEEP, DISK, {"flows": flows, "depth": 512 // flows, "octets": 32768, "seconds": 4}, after=2)
+
+
+LINKS = {
+    "disk": (disk(64), disk(128)),
+    "copies": (Link({"delay": 1000, "copy": 100, "lose": 50}, QUICK, SMALL, after=5),),
+    "kept": (Link({"delay": 1000, "keep": 100}, QUICK, SMALL, after=5),),
+    "other_r": (Link({"delay": 1000, "deaf": 700}, QUICK, SMALL | {"r": 2000}, {"r": 50}),),
+    "held": (Link({"delay": 1000, "lose": 200}, QUICK, SMALL | {"held": 5, "seconds": 8}),),
+    "again": (Link({"delay": 1000, "copy": 200}, QUICK, SMALL | {"seconds": 8}, after=5, restart=2),),
+    "clock": (Link({"delay": 1000, "lose": 300}, QUICK, SMALL | {"seconds": 6}, stops=5),),
+}
+# which counter has the cause
+COUNTERS = {
+    "disk": "too_old", "copies": "too_old", "kept": "too_old", "other_r": "other_parameters", "held": "too_old",
+    "again": "too_old", "clock": "clock_alarms",
+}
+
+
+def runs_of(case: str, programs: Programs, runs: int) -> str:
+    """The runs of a case with the watch, and without it until one breaks."""
+    told = []
+    for place, link in enumerate(LINKS[case]):
+        counted = handed = 0
+        for seed in range(runs):
+            it = Run(programs, link, 0, 1000 * place + seed)()
+            assert it.twice == 0, f"{it.twice} of {it.handed} requests were handed out twice: {it}"
+            assert it.counted(COUNTERS[case]) > 0, f"{COUNTERS[case]} counted nothing: {it}"
+            counted += it.counted(COUNTERS[case])
+            handed += it.handed
+        broken = next(
+            (it for seed in range(TRIES) if (it := Run(programs, link, WITHOUT_WATCH, 5000 + 1000 * place + seed)()).twice),
+            None,
+        )
+        assert broken, f"without the watch nothing was handed out twice in {TRIES} runs: the case shows nothing"
+        told.append(
+            f"nothing twice in {runs} runs ({handed} requests, {COUNTERS[case]} {counted}); "
+            f"without the watch {broken.twice} of {broken.handed}"
+        )
+    return "; ".join(told)
+
+
+def drops(programs: Programs, datagrams: int) -> str:
+    """No datagram is dropped that isn't late, by the parameters of dt_params_for."""
+    told = []
+    for name, delay in (("loopback", 0), ("1 ms", 1000), ("20 ms", 20000)):
+        seen = old = 0
+        for seed in range(1000):
+            if seen >= datagrams:
+                break
+            link = Link({"delay": delay}, {"delay_us": delay or 100}, {"flows": 8, "depth": 4, "octets": 4000, "seconds": 10})
+            it = Run(programs, link, 0, 9000 + seed)()
+            seen += it.counted("in")
+            old += it.counted("too_old")
+            assert it.counted("clock_alarms") == 0, f"a false alarm: {it}"
+        told.append(f"{name}: {old} of {seen} dropped")
+        assert old == 0, "; ".join(told)
+    return "; ".join(told)
+
+
+def main() -> int:
+    parser = argparse.ArgumentParser(description=(__doc__ or "").split("\n\n", maxsplit=1)[0])
+    parser.add_argument("--runs", type=int, default=2)
+    parser.add_argument("--datagrams", type=int, default=100_000)
+    parser.add_argument("cases", nargs="*", metavar="CASE")
+    words = parser.parse_args()
+    cases: dict[str, Callable[[Programs], str]] = {
+        it: (lambda programs, it=it: runs_of(it, programs, words.runs)) for it in LINKS
+    }
+    cases["drops"] = lambda programs: drops(programs, words.datagrams)
+    if unknown := set(words.cases) - set(cases):
+        parser.error(f"no case {', '.join(sorted(unknown))}")
+    if not COMPILER:
+        skip("there is no C compiler")
+    if not all(it.exists() for it in ARCHIVES):
+        skip("lib/libdeltat.a isn't built (make -C lib)")
+    wrong = 0
+    for name in words.cases or cases:
+        with tempfile.TemporaryDirectory(prefix="deltat-watch-") as folder:
+            begun = time.monotonic()
+            try:
+                told = cases[name](Programs(pathlib.Path(folder)))
+            except (AssertionError, subprocess.TimeoutExpired) as why:
+                wrong, told = wrong + 1, f"FAILED: {why}"
+            print(f"{name}: {told} ({time.monotonic() - begun:.1f} s)", flush=True)
+    return 1 if wrong else 0
+
+
+if __name__ == "__main__":
+    sys.exit(main())
