@@ -1,0 +1,6 @@
+pub mod Chains
+pub mod Judging
+pub mod Writing
+pub mod Closing
+pub mod Stores
+pub mod Histories
