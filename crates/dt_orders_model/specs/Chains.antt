@@ -7,10 +7,10 @@ use Rattle.dt_orders_model.specs.declared.knowledge.Place.{Place}
 abbrev pub nowhere : Place
 nowhere = record { is_there = false; left = 0 }
 
--- THE PLACE of a commit in a list of openings, the newest first, of which the newest was left at this clock
-abbrev pub place_in : Known → ℕ → List Opening → Place
-place_in q left [] = nowhere
-place_in q left (o ∷ older) = if q.opening == length older then record { is_there = o.nonce == q.nonce; left = left } else place_in q (o.first - 1) older
+-- THE PLACE of an opening, by its number and its nonce, in a list of openings, the newest first, of which the newest was left at this clock
+abbrev pub place_in : (number nonce left : ℕ) → List Opening → Place
+place_in number nonce left [] = nowhere
+place_in number nonce left (o ∷ older) = if number == length older then record { is_there = o.nonce == nonce; left = left } else place_in number nonce (o.first - 1) older
 
 -- where an opening was left: before the next one, or not yet
 abbrev pub left_before : ℕ → Option Opening → ℕ

@@ -50,7 +50,7 @@ IsDrawn nonce (o ∷ older) = (o.nonce ≢ nonce) × IsDrawn nonce older
 
 abbrev pub IsDrawnAnew : ℕ → List Store → Type 0
 IsDrawnAnew nonce [] = Unit {0}
-IsDrawnAnew nonce (s ∷ ss) = IsDrawn nonce s.chain × IsDrawnAnew nonce ss
+IsDrawnAnew nonce (s ∷ ss) = IsDrawn nonce (s.opening ∷ s.older) × IsDrawnAnew nonce ss
 
 abbrev pub commit : World → Store → World
 commit w s = record { present = s; past = s ∷ w.past; notes = w.notes }
@@ -74,12 +74,12 @@ pub data Goes (w : World) : World → Type 0 where
   commits : (s : Store) → Commits w s → Goes w (commit w s)
   starts : (nonce : ℕ) → IsDrawnAnew nonce w.past → Goes w (commit w (reopened w.present nonce))
 
--- the first opening of an empty store
-abbrev pub empty : Store
-empty = record { clock = 0; horizon = 0; chain = []; rows = λ _. None; log = []; results = [] }
+-- an empty store in its first opening
+abbrev pub first_store : ℕ → Store
+first_store nonce = record { clock = 1; horizon = 0; opening = record { nonce = nonce; first = 1 }; older = []; rows = λ _. None; log = []; results = [] }
 
 abbrev pub first_world : ℕ → World
-first_world nonce = record { present = reopened empty nonce; past = reopened empty nonce ∷ []; notes = [] }
+first_world nonce = record { present = first_store nonce; past = first_store nonce ∷ []; notes = [] }
 
 -- ANY HISTORY: steps without a loss, and set backs. A store that is set back is any state that it ever had, opened anew: so after a power cut, of a restored backup, and of a standby that takes over
 pub data Reached : World → Type 0 where

@@ -40,11 +40,12 @@ pub record Entry : Type 0 where
   pub row : Row
   pub result : List ℕ
 
--- A SERVER'S STORE: its numbers, its openings, the newest first, and its rows; and, as no server keeps them, all orders that were taken in its history and all results
+-- A SERVER'S STORE: its numbers, its last opening and the older ones, the newest first, and its rows; and, as no server keeps them, all orders that were taken in its history and all results
 pub record Store : Type 0 where
   pub clock : ℕ
   pub horizon : ℕ
-  pub chain : List Opening
+  pub opening : Opening
+  pub older : List Opening
   pub rows : ℕ → Option Entry
   pub log : List Taken
   pub results : List Given
@@ -73,24 +74,15 @@ abbrev pub Among : {A : Type 0} → A → List A → Type 0
 Among x [] = ⊥
 Among x (y ∷ ys) = (x ≡ y) ⊎ Among x ys
 
-abbrev pub nonce_of : List Opening → ℕ
-nonce_of [] = 0
-nonce_of (o ∷ older) = o.nonce
-
--- the number of the last opening
-abbrev pub number_of : List Opening → ℕ
-number_of [] = 0
-number_of (o ∷ older) = length older
-
 abbrev pub meta_of : Store → Meta
-meta_of s = record { clock = s.clock; horizon = s.horizon; opening = number_of s.chain; nonce = nonce_of s.chain }
+meta_of s = record { clock = s.clock; horizon = s.horizon; opening = length s.older; nonce = s.opening.nonce }
 
 abbrev pub row_of : Option Entry → Option Row
 row_of None = None
 row_of (Some e) = Some e.row
 
 abbrev pub place_of : Known → Store → Place
-place_of q s = place_in q s.clock s.chain
+place_of q s = place_in q.opening q.nonce s.clock (s.opening ∷ s.older)
 
 abbrev pub shared : Known → Store → ℕ
 shared q s = shared_by q.clock (place_of q s)
@@ -100,7 +92,7 @@ is_on q s = is_on_by q.clock (place_of q s)
 
 -- WHAT AN ANSWER NAMES: the store's last commit
 abbrev pub heard : Store → Known
-heard s = record { opening = number_of s.chain; nonce = nonce_of s.chain; clock = s.clock }
+heard s = record { opening = length s.older; nonce = s.opening.nonce; clock = s.clock }
 
 abbrev pub put : (ℕ → Option Entry) → ℕ → Option Entry → ℕ → Option Entry
 put rows lane entry other = if other == lane then entry else rows other
@@ -132,4 +124,4 @@ forgotten s lane e = record s { clock = s.clock + 1; horizon = horizon_after s.h
 
 -- the store is opened
 abbrev pub reopened : Store → ℕ → Store
-reopened s nonce = record s { clock = s.clock + 1; chain = record { nonce = nonce; first = s.clock + 1 } ∷ s.chain }
+reopened s nonce = record s { clock = s.clock + 1; opening = record { nonce = nonce; first = s.clock + 1 }; older = s.opening ∷ s.older }
