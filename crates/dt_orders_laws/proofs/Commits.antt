@@ -30,6 +30,7 @@ module _ (s : Store) (o : Name) (open_at : ℕ) (sound : Sound s) (is_open : IsO
     where
       alike_back : (a b : Name) → is_same a b ≡ true → is_same b a ≡ true
       alike_back a b h = same_by a b a h (same_itself a)
+
       apart : (b : Bool) → b ≡ true → b ≡ false → ⊥
       apart b x y = cc
   new_to p same d m false e = e
@@ -160,7 +161,7 @@ module _ (s : Store) (lane : ℕ) (e : Entry) (sound : Sound s) (is : s.rows lan
       rows_hold = at_put (λ l x. RowHolds (s.clock + 1) s.horizon s.log (record { name = its_name; result = result } ∷ s.results) l x) s.rows lane (Some (record { row = row_finished (s.clock + 1) e.row; result = result }))
           (record { born = its_row.born; stamp = omega arith; told = (its_work.0, inl refl) })
           (λ l other. row_more s.clock s.horizon (s.clock + 1) s.horizon l s.log s.results s.log (record { name = its_name; result = result } ∷ s.results) (s.rows l) (omega arith) (omega arith)
-              (record { taken = λ d m. m; given = λ g m. inr m; same = λ p h. apart_from p (λ x. other (sym h ∙ sym x)) }) (sound.rows l));
+          (record { taken = λ d m. m; given = λ g m. inr m; same = λ p h. apart_from p (λ x. other (sym h ∙ sym x)) }) (sound.rows l));
       taken = λ d m. inl m;
       once = sound.once;
       given = λ p. given_now p (is_same its_name p) refl;

@@ -4,3 +4,6 @@ pub mod Verdicts
 pub mod Closed
 pub mod Sound
 pub mod Commits
+pub mod Lawful
+pub mod Moving
+pub mod Ends

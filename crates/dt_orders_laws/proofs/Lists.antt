@@ -136,3 +136,28 @@ name_at lane number tag = record { lane = lane; number = number; tag = tag }
 
 pub name_is : (lane number number' tag tag' : ℕ) → number ≡ number' → tag ≡ tag' → name_at lane number tag ≡ name_at lane number' tag'
 name_is lane number number' tag tag' n t = ap (λ (x : ℕ). name_at lane x tag) n ∙ ap (λ (x : ℕ). name_at lane number' x) t
+
+-- an order that was executed has an entry, wherever that is
+pub its_execution : (o : Name) (ds : List Taken) → 1 ≤ executions o ds → (d : Taken) × Among d ds × (is_same d.name o ≡ true) × (is_executed d.act ≡ true)
+its_execution o [] some = absurd (omega arith)
+its_execution o (d ∷ ds) some = by (is_same d.name o) (is_executed d.act) refl refl some (its_execution o ds)
+  where
+    by : (s x : Bool) → is_same d.name o ≡ s → is_executed d.act ≡ x → 1 ≤ (if s && x then suc (executions o ds) else executions o ds) → (1 ≤ executions o ds → (e : Taken) × Among e ds × (is_same e.name o ≡ true) × (is_executed e.act ≡ true)) → (e : Taken) × Among e (d ∷ ds) × (is_same e.name o ≡ true) × (is_executed e.act ≡ true)
+    by true true same is some rest = (d, inl refl, same, is)
+    by true false same is some rest = let r = rest some in (r.0, inr r.1, r.2, r.3)
+    by false x same is some rest = let r = rest some in (r.0, inr r.1, r.2, r.3)
+
+pub has_execution : (o : Name) (ds : List Taken) (d : Taken) → Among d ds → is_same d.name o ≡ true → is_executed d.act ≡ true → 1 ≤ executions o ds
+has_execution o [] d m same is = elim m [ ]
+has_execution o (x ∷ ds) d (inl e) same is =
+    let one : is_same x.name o ≡ true = subst (λ (y : Taken). is_same y.name o ≡ true) e same in
+    let two : is_executed x.act ≡ true = subst (λ (y : Taken). is_executed y.act ≡ true) e is in
+    rw (one, two) (omega arith)
+has_execution o (x ∷ ds) d (inr m) same is = by (is_same x.name o && is_executed x.act) (has_execution o ds d m same is)
+  where
+    by : (t : Bool) → 1 ≤ executions o ds → 1 ≤ (if t then suc (executions o ds) else executions o ds)
+    by true rest = omega arith
+    by false rest = rest
+
+pub executed_more : (o : Name) (ds es : List Taken) → ((d : Taken) → Among d ds → Among d es) → 1 ≤ executions o ds → 1 ≤ executions o es
+executed_more o ds es more some = let x = its_execution o ds some in has_execution o es x.0 (more x.0 x.1) x.2 x.3

@@ -1,4 +1,9 @@
-//! Laws of orders, over any wire, any crash and any set back.
+//! Laws of orders, over any wire, any crash and any set back of a store.
 #![tactic(auto)]
 
 mod laws;
+
+pub use laws::{
+    closed_number_stays_closed, done_means_executed_once_with_this_result,
+    each_order_is_executed_once_at_most, never_is_now_and_ever, who_is_served_has_lost_nothing,
+};

@@ -83,7 +83,7 @@ first_world nonce = record { present = first_store nonce; past = first_store non
 
 -- ANY HISTORY: steps without a loss, and set backs. A store that is set back is any state that it ever had, opened anew: so after a power cut, of a restored backup, and of a standby that takes over
 pub data Reached : World → Type 0 where
-  begins : (nonce : ℕ) → Reached (first_world nonce)
+  first : (nonce : ℕ) → Reached (first_world nonce)
   goes : {w : World} (v : World) → Reached w → Goes w v → Reached v
   set_back : {w : World} (s : Store) (nonce : ℕ) → Reached w → Among s w.past → IsDrawnAnew nonce w.past → Reached (commit w (reopened s nonce))
 

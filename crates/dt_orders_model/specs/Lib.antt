@@ -4,3 +4,4 @@ pub mod Writing
 pub mod Closing
 pub mod Stores
 pub mod Histories
+pub mod Fates
