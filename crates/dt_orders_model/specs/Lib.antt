@@ -5,3 +5,4 @@ pub mod Closing
 pub mod Stores
 pub mod Histories
 pub mod Fates
+pub mod Lanes

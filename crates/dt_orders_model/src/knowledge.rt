@@ -1,7 +1,7 @@
 //! What somebody heard of a server's store.
 
 /// A commit of a server's store. Each answer of the server names the commit that it was read from.
-#[derive(Clone, Copy)]
+#[derive(Clone, Copy, PartialEq, Eq)]
 pub struct Known {
     /// The number of the opening that the commit was written in: 0 for the first opening of the store.
     pub opening: u32,

@@ -3,9 +3,13 @@
 #![tactic(auto)]
 
 mod knowledge;
+mod lanes;
 mod registers;
 mod requests;
 
 pub use knowledge::{Known, Opening, Place};
+pub use lanes::{
+    Answer, Attempt, Called, Client, Effect, Fate, Hearing, Lane, Left, Order, Sending, Word,
+};
 pub use registers::{Meta, Row, RowState};
 pub use requests::{Asked, Kind, Places, Verdict};

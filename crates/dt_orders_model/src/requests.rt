@@ -35,7 +35,7 @@ pub struct Places {
 }
 
 /// What a server does with a request. All but the first three change nothing.
-#[derive(Clone, Copy)]
+#[derive(Clone, Copy, PartialEq, Eq)]
 pub enum Verdict {
     /// It runs the handler and writes the row in the same transaction.
     Execute,

@@ -40,9 +40,9 @@ pub fn touch_row(meta: &Meta, row: &Row) -> Written
     ensures row { result.row ≡ row_touched (meta.now.clock + 1) row.now }
 {
     let meta = ticked(meta);
-    let mut row = *row;
-    row.stamp = meta.clock;
-    Written { meta, row }
+    let mut touched = *row;
+    touched.stamp = meta.clock;
+    Written { meta, row: touched }
 }
 
 /// The row of an order that was at work and has its result now. `None` if it isn't at work: nothing may be
