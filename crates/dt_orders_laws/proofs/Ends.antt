@@ -1,6 +1,7 @@
 -- What an answer says of an order.
 use Rattle.std.proofs.Common.{◌≡◌, ◌≢◌, ◌+◌, ◌≤◌, ◌<◌, ◌∙◌, ℕ, suc, List, [], ◌∷◌, Bool, true, false, ◌⊎◌, inl, inr, ap, sym, subst, arith, refl}
 use Rattle.std.specs.Prelude.{◌==◌, ◌&&◌, not, if◌then◌else◌, nat_le, nat_lt, Option, Some, None}
+use Rattle.std.proofs.lemmas.Bool.{cases_lt}
 use Rattle.std.proofs.lemmas.Bool.Decides.{nat_tests}
 use Rattle.dt_orders_model.specs.declared.knowledge.Known.{Known}
 use Rattle.dt_orders_model.specs.declared.registers.Row.{Row}
@@ -14,11 +15,11 @@ use Rattle.dt_orders_model.specs.declared.requests.Verdict.TheVariants as verdic
 use Rattle.dt_orders_model.specs.Chains.{is_on_by}
 use Rattle.dt_orders_model.specs.Closing.{IsClosed}
 use Rattle.dt_orders_model.specs.Fates.{WasExecuted, WasWithdrawn}
-use Rattle.dt_orders_model.specs.Histories.{Call, Commits, cancels, commits, executes, goes, Goes, Note, Onward, Reached, World, asked_of, commit, known_or, verdict_at}
+use Rattle.dt_orders_model.specs.Histories.{Call, Commits, IsNew, cancels, commits, executes, goes, Goes, Note, Onward, Reached, World, asked_of, commit, known_or, verdict_at}
 use Rattle.dt_orders_model.specs.Judging.{is_ask, is_forked, is_met, judged_above, judged_by, said, stale_by, verdict_of, wanted}
 use Rattle.dt_orders_model.specs.Stores.{Act, Among, Entry, Executed, Given, Name, Store, Taken, Withdrawn, executed, executions, heard, is_on, meta_of, place_of, results_of, row_of, shared, times, withdrawn}
-use Rattle.dt_orders_laws.proofs.Lawful.{Lawful}
-use Rattle.dt_orders_laws.proofs.Lists.{executed_is_taken, executed_more, had_result, name_at, name_is, was_executed, was_withdrawn}
+use Rattle.dt_orders_laws.proofs.Lawful.{Lawful, new_is_untaken}
+use Rattle.dt_orders_laws.proofs.Lists.{executed_is_taken, executed_more, had_result, its_execution, name_at, name_is, same_by, was_executed, was_withdrawn}
 use Rattle.dt_orders_laws.proofs.Moving.{does, lawful_of, moves_on, reached_on}
 use Rattle.dt_orders_laws.proofs.Sound.{IsRow, RowHolds, Sound, Told, TookAs}
 
@@ -249,3 +250,14 @@ pub never_written : (w v : World) (strict : Bool) (c : Call) → Reached w → A
 never_written w v strict c r m e onward =
     let after : World = commit w (withdrawn w.present c.note.name) in
     never_stays after v c.note.name (goes after r (commits (withdrawn w.present c.note.name) (cancels strict c m e))) onward (record { stamp = w.present.clock + 1; there = inl refl })
+
+-- WHAT WASN'T NOTED isn't executed
+pub unnoted : (w : World) (s : Store) (o : Name) → Reached w → Among s w.past → IsNew o w.notes → executions o s.log ≡ 0
+unnoted w s o r m new =
+    elim (cases_lt 0 (executions o s.log)) [
+      | inl some ↦
+          let d = its_execution o s.log (omega arith) in
+          let had = ((lawful_of w r).each s m).noted d.0 d.1 in
+          absurd (new_is_untaken w.notes o new had.note had.there (same_by d.0.name had.note.name o had.same d.2))
+      | inr none ↦ omega arith
+    ]

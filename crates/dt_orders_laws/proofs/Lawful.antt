@@ -98,7 +98,7 @@ lawful_noted w n l came before = record {
 }
 
 -- an order that no note has
-new_is_untaken : (notes : List Note) (o : Name) → IsNew o notes → (n : Note) → Among n notes → is_same n.name o ≡ true → ⊥
+pub new_is_untaken : (notes : List Note) (o : Name) → IsNew o notes → (n : Note) → Among n notes → is_same n.name o ≡ true → ⊥
 new_is_untaken [] o new n m same = elim m [ ]
 new_is_untaken (x ∷ notes) o new n (inl e) same =
     let one : is_same x.name o ≡ true = subst (λ (y : Note). is_same y.name o ≡ true) e same in

@@ -7,3 +7,4 @@ pub mod Commits
 pub mod Lawful
 pub mod Moving
 pub mod Ends
+pub mod Openings

@@ -49,8 +49,8 @@ lawful_first nonce = record {
 
     first_past : (s : Store) → Among s (first_store nonce ∷ []) → IsPast (first_store nonce) [] s
     first_past s (inl e) = subst (λ (x : Store). IsPast (first_store nonce) [] x) (sym e) itself
-
     first_past s (inr x) = elim x [ ]
+
     first_path : (s : Store) → Among s (first_store nonce ∷ []) → (d : Taken) → Among d s.log → ⊥
     first_path s (inl e) d m = let none : Among d (first_store nonce).log = subst (λ (x : Store). Among d x.log) e m in none
     first_path s (inr x) d m = elim x [ ]

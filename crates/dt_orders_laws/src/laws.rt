@@ -3,11 +3,14 @@
 //! answers as it likes, and clients crash and are set back as they like. Its server's store may lose commits
 //! at any time, where a law doesn't say otherwise.
 ghost use Rattle.std.specs.Prelude.{ℕ, ◌≡◌, ◌≢◌, ◌+◌, ◌≤◌, Bool, true, List, Option, Some};
+ghost use Rattle.dt_orders_model.specs.declared.knowledge.Known.{Known};
+ghost use Rattle.dt_orders_model.specs.declared.knowledge.Opening.{Opening};
 ghost use Rattle.dt_orders_model.specs.declared.requests.Verdict.{Verdict};
 ghost use Rattle.dt_orders_model.specs.declared.requests.Verdict.TheVariants as verdict;
+ghost use Rattle.dt_orders_model.specs.Chains.{opening_at, place_by, place_in};
 ghost use Rattle.dt_orders_model.specs.Closing.{IsClosed};
 ghost use Rattle.dt_orders_model.specs.Fates.{WasExecuted, WasWithdrawn};
-ghost use Rattle.dt_orders_model.specs.Histories.{Call, Onward, Reached, World, commit, verdict_at};
+ghost use Rattle.dt_orders_model.specs.Histories.{Call, IsNew, Onward, Reached, World, commit, verdict_at};
 ghost use Rattle.dt_orders_model.specs.Stores.{Among, Entry, Name, Store, executed, executions, heard, row_of, withdrawn};
 
 /// EACH ORDER IS EXECUTED ONCE AT MOST, in the history of each state that the store ever had.
@@ -41,4 +44,16 @@ pub fn closed_number_stays_closed()
 pub fn who_is_served_has_lost_nothing()
     ensures executed { (w : World) (strict : Bool) (s : Store) (c : Call) (o : Name) → Reached w → Among s w.past → c.knows ≡ Some (heard s) → verdict_at strict w.present c ≢ verdict.Forked → executions o s.log ≡ 1 → executions o w.present.log ≡ 1 }
     ensures withdrawn { (w : World) (strict : Bool) (s : Store) (c : Call) (o : Name) → Reached w → Among s w.past → c.knows ≡ Some (heard s) → verdict_at strict w.present c ≢ verdict.Forked → WasWithdrawn s o → executions o w.present.log ≡ 0 }
+{}
+
+/// ONLY WHAT WAS NOTED IS EXECUTED: an order without a note was never executed. An order counts as noted from
+/// its first call on, so one that is cancelled before that never is executed.
+pub fn only_what_was_noted_is_executed()
+    ensures { (w : World) (s : Store) (o : Name) → Reached w → Among s w.past → IsNew o w.notes → executions o s.log ≡ 0 }
+{}
+
+/// TWO OPENINGS ARE ENOUGH: what a store's whole list of openings says of a commit is what `place` computes
+/// of the opening of its number and of the next one.
+pub fn two_openings_are_enough()
+    ensures { (q : Known) (clock : ℕ) (chain : List Opening) → place_in q.opening q.nonce clock chain ≡ place_by clock q (opening_at q.opening chain) (opening_at (q.opening + 1) chain) }
 {}
