@@ -90,7 +90,8 @@ fn renumbered(
     record_number: u64,
 ) -> Lane
     requires { answer.now.value + 1 < 2 ^ 64 }
-    ensures { result ≡ lane_renumbered lane.now order.now answer.now.value client.now.nonce answer.now.heard record_number }
+    ensures { result ≡
+        lane_renumbered lane.now order.now answer.now.value client.now.nonce answer.now.heard record_number }
 {
     let mut lane = *lane;
     lane.order = Some(Order {

@@ -199,7 +199,7 @@ module _ (w : World) (l : Lawful w) (horizon : ℕ) (rows : ℕ → Option Entry
   }
 
 -- A STORE OF THE PAST IS OPENED
-drawn_of : (nonce : ℕ) (past : List Store) → IsDrawnAnew nonce past → (s : Store) → Among s past → IsDrawn nonce (s.opening ∷ s.older)
+pub drawn_of : (nonce : ℕ) (past : List Store) → IsDrawnAnew nonce past → (s : Store) → Among s past → IsDrawn nonce (s.opening ∷ s.older)
 drawn_of nonce [] d s m = elim m [ ]
 drawn_of nonce (x ∷ past) d s (inl e) = subst (λ (y : Store). IsDrawn nonce (y.opening ∷ y.older)) (sym e) d.0
 drawn_of nonce (x ∷ past) d s (inr m) = drawn_of nonce past d.1 s m

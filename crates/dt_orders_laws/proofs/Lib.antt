@@ -8,3 +8,4 @@ pub mod Lawful
 pub mod Moving
 pub mod Ends
 pub mod Openings
+pub mod Settling

@@ -56,7 +56,7 @@ lawful_first nonce = record {
     first_path s (inr x) d m = elim x [ ]
 
 -- WHO IS TAKEN is open
-opened_by : (w : World) (strict : Bool) (c : Call) (v : Verdict) → Takes v → verdict_at strict w.present c ≡ v → IsOpen w.present.horizon (row_of (w.present.rows c.note.name.lane)) c.note.name.number (shared c.note.since w.present)
+pub opened_by : (w : World) (strict : Bool) (c : Call) (v : Verdict) → Takes v → verdict_at strict w.present c ≡ v → IsOpen w.present.horizon (row_of (w.present.rows c.note.name.lane)) c.note.name.number (shared c.note.since w.present)
 opened_by w strict c v takes e = takes_open (meta_of w.present) (row_of (w.present.rows c.note.name.lane)) (asked_of c) (record { since = place_of c.note.since w.present; knows = place_of (known_or c.note.since c.knows) w.present }) strict (subst Takes (sym e) takes)
 
 -- and wasn't taken before

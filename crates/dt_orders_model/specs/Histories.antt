@@ -1,5 +1,5 @@
 -- Histories of a server and of the orders that were noted, over any wire and any crash.
-use Rattle.std.specs.Prelude.{◌≡◌, ◌≢◌, ℕ, Bool, false, List, [], ◌∷◌, Option, Some, None}
+use Rattle.std.specs.Prelude.{◌≡◌, ◌≢◌, ◌≤◌, ℕ, Bool, true, false, List, [], ◌∷◌, Option, Some, None}
 use Rattle.dt_orders_model.specs.declared.knowledge.Known.{Known}
 use Rattle.dt_orders_model.specs.declared.knowledge.Opening.{Opening}
 use Rattle.dt_orders_model.specs.declared.registers.RowState.TheVariants.{AtWork}
@@ -8,7 +8,7 @@ use Rattle.dt_orders_model.specs.declared.requests.Kind.{Kind}
 use Rattle.dt_orders_model.specs.declared.requests.Verdict.{Verdict}
 use Rattle.dt_orders_model.specs.declared.requests.Verdict.TheVariants as verdict
 use Rattle.dt_orders_model.specs.Judging.{verdict_of}
-use Rattle.dt_orders_model.specs.Stores.{Among, Entry, Name, Store, begun, executed, finished, forgotten, heard, is_same, meta_of, place_of, reopened, row_of, touched, withdrawn}
+use Rattle.dt_orders_model.specs.Stores.{Among, Entry, Name, Store, begun, executed, finished, forgotten, heard, is_same, meta_of, place_of, reopened, row_of, shared, touched, withdrawn}
 
 -- AN ORDER WAS NOTED by its client, with a commit that the client had heard of
 pub record Note : Type 0 where
@@ -42,6 +42,10 @@ pub record World : Type 0 where
 abbrev pub IsNew : Name → List Note → Type 0
 IsNew o [] = Unit {0}
 IsNew o (n ∷ ns) = (is_same n.name o ≡ false) × IsNew o ns
+
+-- no note of the order names a commit that more is shared up to
+abbrev pub HasNoNewer : World → Note → Type 0
+HasNoNewer w note = (n : Note) → Among n w.notes → is_same n.name note.name ≡ true → shared n.since w.present ≤ shared note.since w.present
 
 -- no opening of the list has the nonce
 abbrev pub IsDrawn : ℕ → List Opening → Type 0

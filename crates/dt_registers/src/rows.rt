@@ -18,7 +18,8 @@ pub struct Written {
 pub fn write_row(meta: &Meta, before: &Option<Row>, asked: &Asked, state: RowState) -> Written
     requires { meta.now.clock + 1 < 2 ^ 64 }
     ensures meta { result.meta ≡ record meta.now { clock = meta.now.clock + 1 } }
-    ensures row { result.row ≡ row_after (meta.now.clock + 1) meta.now.horizon before.now asked.now.number asked.now.tag state }
+    ensures row { result.row ≡
+        row_after (meta.now.clock + 1) meta.now.horizon before.now asked.now.number asked.now.tag state }
 {
     let meta = ticked(meta);
     Written {
@@ -69,7 +70,10 @@ pub fn finish_row(meta: &Meta, row: &Row) -> Option<Written>
 pub fn forget_row(meta: &Meta, row: &Row) -> Option<Meta>
     requires { meta.now.clock + 1 < 2 ^ 64 }
     ensures some { IsSome result ↔ (row.now.state ≢ AtWork) }
-    ensures meta { IfSome result (λ m. m ≡ record meta.now { clock = meta.now.clock + 1; horizon = horizon_after meta.now.horizon row.now }) }
+    ensures meta { IfSome result (λ m. m ≡ record meta.now {
+      clock = meta.now.clock + 1;
+      horizon = horizon_after meta.now.horizon row.now;
+    }) }
 {
     match row.state {
         RowState::AtWork => None,
