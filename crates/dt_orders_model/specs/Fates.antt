@@ -1,6 +1,6 @@
 -- What became of an order, by the history of a store.
 use Rattle.std.specs.Prelude.{◌≡◌, ℕ, List}
-use Rattle.dt_orders_model.specs.Stores.{Among, Executed, Name, Store, Withdrawn, executions, results_of}
+use Rattle.dt_orders_model.specs.Stores.{Among, Name, Store, Withdrawn, executions, results_of}
 
 -- IT WAS EXECUTED exactly once, and this is its one result
 pub record WasExecuted (s : Store) (o : Name) (result : List ℕ) : Type 0 where

@@ -5,7 +5,6 @@ use Rattle.dt_orders_model.specs.declared.knowledge.Opening.{Opening}
 use Rattle.dt_orders_model.specs.declared.knowledge.Place.{Place}
 use Rattle.dt_orders_model.specs.declared.registers.Meta.{Meta}
 use Rattle.dt_orders_model.specs.declared.registers.Row.{Row}
-use Rattle.dt_orders_model.specs.declared.registers.RowState.{RowState}
 use Rattle.dt_orders_model.specs.declared.registers.RowState.TheVariants.{AtWork, Cancelled, Done}
 use Rattle.dt_orders_model.specs.Chains.{is_on_by, place_in, shared_by}
 use Rattle.dt_orders_model.specs.Writing.{horizon_after, row_after, row_finished, row_touched}

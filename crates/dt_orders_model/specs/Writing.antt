@@ -1,7 +1,5 @@
 -- What is written.
-use Rattle.std.specs.Prelude.{ℕ, ◌+◌, max, Option, Some, None}
-use Rattle.dt_orders_model.specs.declared.knowledge.Opening.{Opening}
-use Rattle.dt_orders_model.specs.declared.registers.Meta.{Meta}
+use Rattle.std.specs.Prelude.{ℕ, max, Option, Some, None}
 use Rattle.dt_orders_model.specs.declared.registers.Row.{Row}
 use Rattle.dt_orders_model.specs.declared.registers.RowState.{RowState}
 use Rattle.dt_orders_model.specs.declared.registers.RowState.TheVariants.{Done}
