@@ -1,0 +1,11 @@
+pub mod Lists
+pub mod Places
+pub mod Verdicts
+pub mod Closed
+pub mod Sound
+pub mod Commits
+pub mod Lawful
+pub mod Moving
+pub mod Ends
+pub mod Openings
+pub mod Settling
