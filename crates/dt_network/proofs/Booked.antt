@@ -15,10 +15,8 @@ use Rattle.dt_flow_model.specs.Ledger.{given_at, item_of, row_at}
 use Rattle.dt_flow_model.specs.Safe.{SafeLedger}
 use Rattle.dt_world_laws.proofs.Bare.{event_alike}
 use Rattle.dt_world_laws.proofs.Books.{no_placed}
-use Rattle.dt_world_laws.proofs.Starts.{new_sender}
 use Rattle.dt_world_model.proofs.Tables.{look_write_other, nat_is, nat_self}
 use Rattle.dt_world_model.specs.Host.{one_if}
-use Rattle.dt_world_model.specs.Setup.{Setup, new_world}
 use Rattle.dt_world_model.specs.Station.{Event, Station, station_event}
 use Rattle.dt_world_model.specs.Tables.{look}
 use Rattle.dt_world_model.specs.Tags.{Alike, bare_event, bare_station}
@@ -30,7 +28,10 @@ use Rattle.dt_endpoint.specs.Networks.{IsAt}
 use Rattle.dt_network.proofs.Booking.{rows_told, script_booked, untimed}
 use Rattle.dt_network.proofs.Frames.{Ends}
 use Rattle.dt_network.proofs.Late.{life_stays}
+use Rattle.dt_network.proofs.Openings.{first_sender}
 use Rattle.dt_network.specs.Books.{Book, book_all, book_by, new_book}
+use Rattle.dt_network.specs.Network.{Setup}
+use Rattle.dt_network.specs.Stations.{first_world}
 
 pub record Booked (w : World) (g : Flow) (b : Book) : Type 0 where
   pub rows : rows_told w.ledgers g ≡ b.rows
@@ -79,8 +80,8 @@ again_booked w n at g b again booked = record {
   ];
 }
 
-pub new_booked : (setup : Setup) (g : Flow) → Booked (new_world setup) g new_book
-new_booked setup g = record { rows = refl; lives = λ m. ap (λ (x : SenderSide). x.life) (new_sender setup setup.stations m g) }
+pub new_booked : (setup : Setup) (g : Flow) → Booked (first_world setup) g new_book
+new_booked setup g = record { rows = refl; lives = λ m. ap (λ (x : SenderSide). x.life) (first_sender setup.nodes m g) }
 
 -- A SAFE LEDGER without first moments
 row_untimed : (rows : List Taken) (place : ℕ) → row_at (map untimed rows) place ≡ untimed (row_at rows place)

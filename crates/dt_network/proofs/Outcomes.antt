@@ -34,7 +34,7 @@ use Rattle.dt_endpoint.specs.Counts.{Counted, counts_refused}
 use Rattle.dt_endpoint.specs.Endpoints.{EndpointValue, with_followed, with_refused, with_route}
 use Rattle.dt_network.proofs.Frames.{Ends}
 use Rattle.dt_network.specs.Steps.{Does, Follow}
-use Rattle.dt_world_model.specs.Setup.{Setup}
+use Rattle.dt_network.specs.Network.{Setup}
 
 -- NOTHING that the network sees: what the endpoint keeps of its node stays, and no frame is appended
 pub record IsStill (e f : EndpointValue) : Type 0 where

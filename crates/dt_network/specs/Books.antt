@@ -53,7 +53,7 @@ abbrev pub book_by : Flow → ℕ → List Item → List Told → Book → Book
 book_by f n items reports b = record { rows = book_all f (b.lives n) items reports b.rows; lives = b.lives }
 
 abbrev pub book_from : Flow → ℕ → Call → Option EndpointValue → EndpointValue → Book → Book
-book_from f n (OpenAgain again routes) o after b = record { rows = b.rows; lives = λ m. b.lives m + one_if (n == m) }
+book_from f n (OpenAgain again options) o after b = record { rows = b.rows; lives = λ m. b.lives m + one_if (n == m) }
 book_from f n call o after b = book_by f n (items_in call) (reports_by o after) b
 
 abbrev pub book_after : Flow → Step → Network → Book → Book

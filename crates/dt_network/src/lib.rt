@@ -8,7 +8,6 @@ ghost use Rattle.std.specs.Prelude.{ℕ, ◌≡◌, ◌==◌, false, List, None,
 ghost use Rattle.dt_items.specs.declared.item.Item.{Item};
 ghost use Rattle.dt_units.specs.declared.endpoints.Flow.{Flow};
 ghost use Rattle.dt_units.specs.Limits.{IsWithinLimits};
-ghost use Rattle.dt_world_model.specs.Setup.{Setup, new_world};
 ghost use Rattle.dt_units.specs.declared.parameters.Params.{Params};
 ghost use Rattle.dt_world_model.specs.declared.links.InLink.{InLink};
 ghost use Rattle.dt_world_model.specs.declared.links.OutLink.{OutLink};
@@ -21,20 +20,22 @@ ghost use Rattle.dt_network.specs.Away.{WasAway, open_at_once, opened_at_once};
 ghost use Rattle.dt_network.specs.Beside.{GoesBeside};
 ghost use Rattle.dt_network.specs.Books.{AllFound, IsSafeBook, book_of, new_book};
 ghost use Rattle.dt_network.specs.Duties.{KeepsDuties};
-ghost use Rattle.dt_network.specs.Network.{new_network};
+ghost use Rattle.dt_network.specs.Network.{Setup, new_network};
 ghost use Rattle.dt_network.specs.Octets.{AreTaken, IsReadOf, all_read};
+ghost use Rattle.dt_network.specs.Stations.{first_world};
 ghost use Rattle.dt_network.specs.Steps.{AreSteps, Step, network_by};
 
 pub use worked::exchange_keeps_the_duties;
 
 /// A NETWORK IS A WORLD. Whatever calls a program makes of the endpoints of a network: where it keeps its
-/// duties, a world of the definitions goes beside the network, from the new world of the same setup.
+/// duties, a world of the definitions goes beside the network, from the first world of the same setup.
 /// Before the calls and after each of them every endpoint is its station, every frame that left is a
 /// copy of it, and the world is safe; from call to call it goes on by its steps, and no fate changes
-/// that isn't open. Routes are no duty: a call may add one, and a node may open again with others than
-/// it had. Then its station of the world has those too, and nothing else of the world is other.
+/// that isn't open. A link is a node's own: what left any node may come to any node, on any link there,
+/// whose charge alone counts. Links and routes are no duty: a call may add a route, and a node may open
+/// again with others than it had. Then its station of the world has those too.
 pub fn network_is_a_world()
-    ensures { (setup : Setup) (steps : List Step) → IsWithinLimits setup.params → AreSteps setup steps (new_network setup) → KeepsDuties setup steps (new_network setup) → GoesBeside setup steps (new_network setup) (new_world setup) }
+    ensures { (setup : Setup) (steps : List Step) → IsWithinLimits setup.params → AreSteps setup steps (new_network setup) → KeepsDuties setup steps (new_network setup) → GoesBeside setup steps (new_network setup) (first_world setup) }
 {}
 
 /// WHAT IS READ IS WHAT WAS SENT. Where a program keeps its duties, the octets that the reads of a flow
