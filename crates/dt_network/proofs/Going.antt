@@ -8,7 +8,7 @@ use Rattle.dt_units.specs.declared.endpoints.Flow.{Flow}
 use Rattle.dt_units.specs.Flows.{IsFlow}
 use Rattle.dt_units.specs.Limits.{IsWithinLimits}
 use Rattle.dt_layout.specs.Carried.{life_of}
-use Rattle.dt_flow_model.specs.Frames.{Mark}
+use Rattle.dt_flow_model.specs.Frames.{Mark, marked_packet, value_in}
 use Rattle.dt_world_laws.proofs.Lifting.{lifted_fates, no_lift}
 use Rattle.dt_world_laws.proofs.Promise.{facts_are_safe}
 use Rattle.dt_world_model.specs.Relay.{charge_of}
@@ -16,7 +16,7 @@ use Rattle.dt_world_model.specs.Station.{Event, Read, Send, Station, Tick, stati
 use Rattle.dt_world_model.specs.Tables.{look, write}
 use Rattle.dt_world_model.specs.Tags.{bare_event}
 use Rattle.dt_world_model.specs.World.{World, view}
-use Rattle.dt_world_model.specs.WorldFacts.{WorldFacts}
+use Rattle.dt_world_model.specs.WorldFacts.{IsCopy, WorldFacts}
 use Rattle.dt_world_model.specs.WorldStep.{event_at, restart_at}
 use Rattle.dt_endpoint.specs.Acts.{OutFrameValue}
 use Rattle.dt_endpoint.specs.Calls.{arrive_event, arrive_refusal, read_answer, send_answer}
@@ -50,15 +50,11 @@ use Rattle.dt_network.proofs.Told.{read_told, send_items, send_told, taken_if, t
 use Rattle.dt_network.specs.Octets.{AreTaken, IsReadOf, IsTaken, Takes, TakesIf, TakesIn, all_read, items_read, read_by, read_if, read_in_step}
 use Rattle.dt_reports.specs.Told.{Told}
 use Rattle.dt_flow_model.specs.Safe.{SafeLedger}
-use Rattle.dt_world_model.specs.Relay.{lower_parcel}
-use Rattle.dt_world_model.specs.Tags.{bare_parcel}
 use Rattle.dt_world_model.specs.World.{placed}
-use Rattle.dt_world_model.specs.WorldStep.{occasion}
-use Rattle.dt_endpoint.specs.Acts.{acts_of, reports_in}
-use Rattle.dt_endpoint.specs.Endpoints.{moment_of, script_of}
+use Rattle.dt_world_model.specs.WorldStep.{items_with, occasion}
 use Rattle.dt_network.proofs.Booked.{Booked, again_booked, event_booked, new_booked, safe_untimed}
-use Rattle.dt_network.proofs.Booking.{arrival_free, free_books, untimed}
-use Rattle.dt_network.specs.Books.{AllFound, Book, FoundIn, IsSafeBook, book_after, book_all, book_by, book_from, book_of, items_in, new_book}
+use Rattle.dt_network.proofs.Booking.{brings, untimed}
+use Rattle.dt_network.specs.Books.{AllFound, Book, FoundIn, IsSafeBook, book_after, book_all, book_by, book_from, book_of, given_all, items_in, new_book, no_mark}
 use Rattle.dt_world_laws.proofs.Worlds.{placed_is}
 use Rattle.dt_world_model.specs.Host.{receiver_at}
 use Rattle.dt_world_model.specs.World.{Placed}
@@ -111,7 +107,7 @@ time_beside setup net w by limits h =
         facts = goes.facts;
       };
       accounts = λ g joined sure. calm_account w later net (network_after (Pass by) net) g (TakesIn g (Pass by)) [] joined (others_calm w limits h.facts (Passes by) g tt refl tt tt) refl (λ s. record { reader = s.reader; there = s.there; spent = s.spent }) refl sure;
-      booked = λ found g b k. record { rows = k.rows; lives = k.lives };
+      booked = λ found g b k. record { rows = k.rows; given = k.given; lives = k.lives };
       none_spent = λ found g before s. before (record { reader = s.reader; there = s.there; spent = s.spent });
     }
 
@@ -151,7 +147,7 @@ module _ (setup : Setup) (net : Network) (w : World) (limits : IsWithinLimits w.
           facts = h.facts;
         };
         accounts = λ g joined sure. calm_account w w net after g (Takes g call) (read_by g call) joined (calm_same w g) (takes_none g) (spent_still net n e f g found k.spent) (unread g) sure;
-        booked = λ memory g b was. subst (Booked w g) (sym (noted g b)) (record { rows = was.rows ∙ sym (ap (λ (rs : List Told). book_all g (b.lives n) (items_in call) rs b.rows) k.reports); lives = was.lives });
+        booked = λ memory g b was. subst (Booked w g) (sym (noted g b)) (record { rows = was.rows ∙ sym (ap (λ (rs : List Told). book_all g (b.lives n) (items_in call) rs b.rows) k.reports); given = was.given ∙ sym (ap (λ (rs : List Told). given_all g (b.lives n) (items_in call) rs b.given) k.reports); lives = was.lives });
         none_spent = λ memory g before. none_spent net n e f g found memory before;
       }
 
@@ -160,12 +156,12 @@ module _ (setup : Setup) (net : Network) (w : World) (limits : IsWithinLimits w.
   Accounts call event = (g : Flow) (joined : Bool) → Sure net w g joined → Account w (event_at w n event (Some s.at)).1 after g (Takes g call) (read_by g call) joined
 
   -- the octets that the world notes for it are those of the call
-  abbrev SameItems : ℕ → Call → Event Mark → Type 0
-  SameItems now call event = (g : Flow) (rows : List rows.Taken) → book_all g (occasion w n event).life (occasion w n event).items (reports_in (acts_of (script_of now (bare_event event) e))) rows ≡ book_all g (placed w n).life (items_in call) (reports_in (acts_of (script_of now (bare_event event) e))) rows
+  abbrev SameItems : Call → Event Mark → Type 0
+  SameItems call event = (occasion w n event).items ≡ items_in call
 
-  by_event : (call : Call) (now : ℕ) → KeepsTime setup net n now → e.spent ≡ false → (event : Event Mark) → Ends now (bare_event event) e f → (goes : Goes w (event_at w n event (Some s.at)).1) → GoesOnBy call n w (event_at w n event (Some s.at)).1 → Accounts call event → IsNoted call → SameItems now call event → Next call
+  by_event : (call : Call) (now : ℕ) → KeepsTime setup net n now → e.spent ≡ false → (event : Event Mark) → Ends now (bare_event event) e f → (goes : Goes w (event_at w n event (Some s.at)).1) → GoesOnBy call n w (event_at w n event (Some s.at)).1 → Accounts call event → IsNoted call → SameItems call event → Next call
   by_event call now time unspent event ends goes on accounts noted same =
-      record { world = (event_at w n event (Some s.at)).1; goes_on = on; fates = goes.fates; beside = event_beside setup net w h n e s now time unspent event f ends goes.facts; accounts = accounts; none_spent = λ memory g before. none_spent net n e f g found memory before; booked = λ memory g b was. subst (Booked (event_at w n event (Some s.at)).1 g) (sym (noted g b)) (event_booked w n s.at s.there now e f (is_at setup net w h n e s now time unspent) event ends memory g b (items_in call) (same g) was) }
+      record { world = (event_at w n event (Some s.at)).1; goes_on = on; fates = goes.fates; beside = event_beside setup net w h n e s now time unspent event f ends goes.facts; accounts = accounts; none_spent = λ memory g before. none_spent net n e f g found memory before; booked = λ memory g b was. subst (Booked (event_at w n event (Some s.at)).1 g) (sym (noted g b)) (event_booked w n s.at s.there now e f (is_at setup net w h n e s now time unspent) event ends memory g b (items_in call) same was) }
 
   -- an event that takes nothing and reads nothing
   calm_event : (call : Call) (event : Event Mark) → e.spent ≡ false → ((g : Flow) → Calm w (event_at w n event (Some s.at)).1 g) → ((g : Flow) → Takes g call []) → ((g : Flow) → read_by g call ≡ []) → Accounts call event
@@ -185,7 +181,7 @@ module _ (setup : Setup) (net : Network) (w : World) (limits : IsWithinLimits w.
   by_tick now answer time (inr k) =
       by_event (CallTick now answer) now time k.0 Tick k.1 (goes_by_tick w n s.at s.there limits h.facts) (goes_by_tick w n s.at s.there limits h.facts).onward
       (calm_event (CallTick now answer) Tick k.0 (tick_calm w n s.at s.there limits h.facts) (λ g. refl) (λ g. refl))
-      (λ g b. refl) (λ g rows. refl)
+      (λ g b. refl) refl
 
   -- a send that is refused takes nothing of its flow
   none_if : (same : Bool) (answer : Sent) (items : List Item) → IsTaken answer items [] → TakesIf same answer items []
@@ -212,7 +208,7 @@ module _ (setup : Setup) (net : Network) (w : World) (limits : IsWithinLimits w.
       let goes = goes_by_send w n s.at s.there limits h.facts flow octets begin end is from (apart flow.from.0 flow.to.0 e.state.host.me k.from k.to) in
       by_event (CallSend now flow octets begin end answer) now time k.unspent (Send flow octets begin end) k.ends goes goes.onward
       (send_accounts now flow octets begin end answer time is k from)
-      (λ g b. refl) (λ g rows. refl)
+      (λ g b. refl) refl
 
   none_read_if : (same : Bool) (items : List Item) → items ≡ [] → read_if same items ≡ []
   none_read_if true items h = h
@@ -248,7 +244,7 @@ module _ (setup : Setup) (net : Network) (w : World) (limits : IsWithinLimits w.
       let goes = goes_by_read w n s.at s.there limits h.facts flow room is to (apart_from flow.from.0 flow.to.0 e.state.host.me k.to k.from) in
       by_event (CallRead now flow room buf answer) now time k.unspent (Read flow room) k.ends goes goes.onward
       (read_accounts now flow room buf answer time is k to)
-      (λ g b. refl) (λ g rows. refl)
+      (λ g b. refl) refl
 
   -- the copy of a datagram, and that it comes in time
   by_copy : (now link : ℕ) (datagram : List ℕ) (waited : ℕ) (answer : Received) → KeepsTime setup net n now → Admits now link datagram waited e f → (i : IsInTime net e link datagram waited) → IsUnderWay w.copies i.flight → Next (CallArrive now link datagram waited answer)
@@ -266,11 +262,12 @@ module _ (setup : Setup) (net : Network) (w : World) (limits : IsWithinLimits w.
         in_time = omega (arith, i.in_time, charge, under.put, h.now);
       } in
       let call = CallArrive now link datagram waited answer in
+      let is : IsCopy w.params w.now (view w) c = All-contains (IsCopy w.params w.now (view w)) w.copies c h.facts.copies under.there in
       let comes = late_event (on_link link c) waited in
       let goes = goes_late w n s.at s.there limits h.facts link c waited late in
       by_event call now time k.unspent comes (subst (λ (ev : Event (Unit {0})). Ends now ev e f) event k.ends) goes goes.onward
       (calm_event call comes k.unspent (late_calm w n s.at s.there limits h.facts link c waited late) (λ g. refl) (λ g. refl))
-      (λ g b. refl) (λ g rows. free_books (script_of now (bare_event comes) e) g (placed w n).life (occasion w n comes).items rows (arrival_free e.rules (moment_of now e) link (bare_parcel (lower_parcel waited c.parcel)) e.state))
+      (λ g b. refl) (brings c.parcel.tag waited c.parcel.octets is.packet.gram late.below ∙ ap (λ (os : List ℕ). items_with (marked_packet no_mark (value_in os))) octets)
 
   by_arrival : (now link : ℕ) (datagram : List ℕ) (waited : ℕ) (answer : Received) → KeepsTime setup net n now → (arrive_refusal link datagram waited e ≡ None → IsInTime net e link datagram waited) → IsStill e f ⊎ Admits now link datagram waited e f → Next (CallArrive now link datagram waited answer)
   by_arrival now link datagram waited answer time owed (inl same) = still (CallArrive now link datagram waited answer) stays (λ g b. refl) same (λ g. refl) (λ g. refl)
@@ -318,7 +315,7 @@ module _ (setup : Setup) (net : Network) (w : World) (limits : IsWithinLimits w.
           facts = reroute_keeps w n s.at s.there (and_route route) h.facts;
         };
         accounts = λ g joined sure. calm_account w v net after g (Takes g call) (read_by g call) joined (calm_stands w n s.at s.there new seen w.links g) refl (spent_still net n e f g found (ap (λ (x : EndpointValue). x.spent) is)) refl sure;
-        booked = λ memory g b was. booked_stands w n s.at s.there new seen w.links g _ (record { rows = was.rows ∙ sym (ap (λ (rs : List Told). book_all g (b.lives n) (items_in call) rs b.rows) none_told); lives = was.lives });
+        booked = λ memory g b was. booked_stands w n s.at s.there new seen w.links g _ (record { rows = was.rows ∙ sym (ap (λ (rs : List Told). book_all g (b.lives n) (items_in call) rs b.rows) none_told); given = was.given ∙ sym (ap (λ (rs : List Told). given_all g (b.lives n) (items_in call) rs b.given) none_told); lives = was.lives });
         none_spent = λ memory g before. none_spent net n e f g found memory before;
       }
 
@@ -485,6 +482,7 @@ network_tells setup steps f limits does keeps found =
     let safe : SafeLedger (placed r.last f.from.0).life (map untimed (ledger_of r.last.ledgers f).taken) given reads_told = safe_untimed (placed r.last f.from.0).life (ledger_of r.last.ledgers f).taken given reads_told (facts_are_safe r.last f r.facts).ledger in
     record {
       given = given;
+      accepted = was.given;
       reads = reads_told;
       safe = subst (λ (life : ℕ). SafeLedger life b.rows given reads_told) (was.lives f.from.0) (subst (λ (ts : List rows.Taken). SafeLedger (placed r.last f.from.0).life ts given reads_told) was.rows safe);
       gone = r.rows;

@@ -15,3 +15,4 @@ mod Told
 mod Going
 mod Booking
 mod Booked
+mod Settled

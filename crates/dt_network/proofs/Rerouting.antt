@@ -130,7 +130,7 @@ module _ (w : World) (n : ℕ) (at : Placed) (there : look ◌==◌ n w.stations
   }
 
   pub booked_stands : (g : Flow) (b : Book) → Booked w g b → Booked anew g b
-  booked_stands g b k = record { rows = k.rows; lives = λ m. same_life m ∙ k.lives m }
+  booked_stands g b k = record { rows = k.rows; given = k.given; lives = λ m. same_life m ∙ k.lives m }
 
 -- OTHER ROUTES, and the packets that wait stay where they are
 module _ (w : World) (n : ℕ) (at : Placed) (there : look ◌==◌ n w.stations ≡ Some at) (routes : List Route) (facts : WorldFacts w) where

@@ -12,15 +12,17 @@ ghost use Rattle.dt_units.specs.declared.parameters.Params.{Params};
 ghost use Rattle.dt_world_model.specs.declared.links.InLink.{InLink};
 ghost use Rattle.dt_world_model.specs.declared.links.OutLink.{OutLink};
 ghost use Rattle.dt_world_model.specs.declared.links.Route.{Route};
+ghost use Rattle.dt_flow_model.specs.declared.rows.Fate.TheVariants.{Acked};
+ghost use Rattle.dt_flow_model.specs.Ledger.{row_at};
 ghost use Rattle.dt_world_model.specs.Tables.{look};
 ghost use Rattle.dt_world_model.specs.World.{Placed, World};
 ghost use Rattle.dt_world_model.specs.WorldFacts.{SafeWorld, WorldFacts};
 ghost use Rattle.dt_endpoint.specs.Endpoints.{opened};
 ghost use Rattle.dt_network.specs.Away.{WasAway, open_at_once, opened_at_once};
 ghost use Rattle.dt_network.specs.Beside.{GoesBeside};
-ghost use Rattle.dt_network.specs.Books.{AllFound, IsSafeBook, book_of, new_book};
+ghost use Rattle.dt_network.specs.Books.{AllFound, Book, IsSafeBook, WasAccepted, book_of, new_book};
 ghost use Rattle.dt_network.specs.Duties.{KeepsDuties};
-ghost use Rattle.dt_network.specs.Network.{Setup, new_network};
+ghost use Rattle.dt_network.specs.Network.{Network, Setup, new_network};
 ghost use Rattle.dt_network.specs.Octets.{AreTaken, IsReadOf, all_read};
 ghost use Rattle.dt_network.specs.Stations.{first_world};
 ghost use Rattle.dt_network.specs.Steps.{AreSteps, Step, network_by};
@@ -62,10 +64,18 @@ pub fn node_that_was_away_opens_at_once()
 
 /// THE LEDGER THAT IS TOLD IS SAFE. Where a program keeps its duties and every call finds memory, the
 /// reports `Took`, `Settled` and `Uncertain` tell a row for each octet that the sends of a flow took, with
-/// its fate; and there are rows of octets that were given, in order and each at the place of its octet,
-/// such that what was settled was given, and what was passed over is uncertain or of an earlier opening
-/// of its sender. The last of them are what is unread at the reader; those before were read, as the reads
-/// answered, but for some that were given before the reader's last opening.
+/// its fate, and the reports `Accepted` one for each octet that its reader accepted, with the life of the
+/// reader in which it did. No report tells at which place of the sends an accepted octet stands. But there
+/// is a place for each of them, in order, at which the same octet was sent, such that what was settled was
+/// accepted, and what was passed over is uncertain or of an earlier opening of its sender. The last of the
+/// accepted are what is unread at the reader; those before were read, as the reads answered, but for some
+/// that were accepted before the reader's last opening.
 pub fn reports_tell_a_safe_ledger()
     ensures { (setup : Setup) (steps : List Step) (f : Flow) → IsWithinLimits setup.params → AreSteps setup steps (new_network setup) → KeepsDuties setup steps (new_network setup) → AllFound steps → IsSafeBook f (network_by steps (new_network setup)) (book_of f steps (new_network setup) new_book) (all_read f steps) }
+{}
+
+/// WHAT WAS SETTLED WAS ACCEPTED. In such a book each octet that the sender's reports settled is among
+/// those that the reader's reports `Accepted` tell, with its marks, however often either node opened again.
+pub fn what_was_settled_was_accepted()
+    ensures { (f : Flow) (net : Network) (book : Book) (read : List Item) (place : ℕ) → IsSafeBook f net book read → (row_at book.rows place).fate ≡ Acked → WasAccepted book.given (row_at book.rows place) }
 {}
