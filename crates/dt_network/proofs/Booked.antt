@@ -17,7 +17,7 @@ use Rattle.dt_world_laws.proofs.Bare.{event_alike}
 use Rattle.dt_world_laws.proofs.Books.{no_placed}
 use Rattle.dt_world_model.proofs.Tables.{look_write_other, nat_is, nat_self}
 use Rattle.dt_world_model.specs.Host.{one_if}
-use Rattle.dt_world_model.specs.Station.{Event, Station, station_event}
+use Rattle.dt_world_model.specs.Station.{Arrive, Event, Read, Send, Station, Tick, station_event}
 use Rattle.dt_world_model.specs.Tables.{look}
 use Rattle.dt_world_model.specs.Tags.{Alike, bare_event, bare_station}
 use Rattle.dt_world_model.specs.World.{Placed, SenderSide, World, placed}
@@ -41,6 +41,12 @@ pub record Booked (w : World) (g : Flow) (b : Book) : Type 0 where
 abbrev IsBareOf : Station Mark → Station (Unit {0}) → Type 0
 IsBareOf a b = b ≡ bare_station a
 
+occasion_life : (w : World) (n : ℕ) (event : Event Mark) → (occasion w n event).life ≡ (placed w n).life
+occasion_life w n (Send f octets begin end) = refl
+occasion_life w n (Read f most) = refl
+occasion_life w n Tick = refl
+occasion_life w n (Arrive link parcel) = refl
+
 -- the book after an event that found memory
 module _ (w : World) (n : ℕ) (at : Placed) (there : look ◌==◌ n w.stations ≡ Some at) (now : ℕ) (e f : EndpointValue) (h : IsAt w at now e) (event : Event Mark) (ends : Ends now (bare_event event) e f) (found : f.spent ≡ false) where
   abbrev told : List Told
@@ -60,12 +66,14 @@ module _ (w : World) (n : ℕ) (at : Placed) (there : look ◌==◌ n w.stations
   event_booked g b items same booked = record {
     rows =
         script_booked IsBareOf (occasion w n event) g alike (noted_at w)
+        ∙ ap (λ (life : ℕ). book_all g life (occasion w n event).items told (rows_told w.ledgers g)) (occasion_life w n event)
         ∙ ap (λ (is : List Item). book_all g (placed w n).life is told (rows_told w.ledgers g)) same
         ∙ ap (book_all g (placed w n).life items told) booked.rows
         ∙ ap (λ (life : ℕ). book_all g life items told b.rows) (booked.lives n)
         ∙ ap (λ (rs : List Told). book_all g (b.lives n) items rs b.rows) (sym appended);
     given =
         script_accepted IsBareOf (occasion w n event) g alike (noted_at w)
+        ∙ ap (λ (life : ℕ). given_all g life (occasion w n event).items told (rows_accepted w.ledgers g)) (occasion_life w n event)
         ∙ ap (λ (is : List Item). given_all g (placed w n).life is told (rows_accepted w.ledgers g)) same
         ∙ ap (given_all g (placed w n).life items told) booked.given
         ∙ ap (λ (life : ℕ). given_all g life items told b.given) (booked.lives n)

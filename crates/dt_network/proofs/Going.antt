@@ -51,7 +51,7 @@ use Rattle.dt_network.specs.Octets.{AreTaken, IsReadOf, IsTaken, Takes, TakesIf,
 use Rattle.dt_reports.specs.Told.{Told}
 use Rattle.dt_flow_model.specs.Safe.{SafeLedger}
 use Rattle.dt_world_model.specs.World.{placed}
-use Rattle.dt_world_model.specs.WorldStep.{items_with, occasion}
+use Rattle.dt_world_model.specs.WorldStep.{items_with, occasion, restarted}
 use Rattle.dt_network.proofs.Booked.{Booked, again_booked, event_booked, new_booked, safe_untimed}
 use Rattle.dt_network.proofs.Booking.{brings, untimed}
 use Rattle.dt_network.specs.Books.{AllFound, Book, FoundIn, IsSafeBook, book_after, book_all, book_by, book_from, book_of, given_all, items_in, new_book, no_mark}

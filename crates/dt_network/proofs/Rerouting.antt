@@ -147,16 +147,16 @@ module _ (w : World) (n : ℕ) (at : Placed) (there : look ◌==◌ n w.stations
       facts_stand w n at there new_routes seen_so w.links
       (all_outs_weaker (IsWaiting w.params w.now at.zero (view w)) (IsWaiting w.params w.now at.zero (view v)) (λ x k. waiting_on w.params w.now at.zero (view w) (view v) x (on_same w n at there new_routes seen_so w.links) k) at.station.relay.outs old.waiting)
       (λ link a e.
-          let to = (link_in link w.links).to in
-          elim (cases_Bool (n == to)) [
-            | inl y ↦
-                let same : n ≡ to = nat_is n to y in
-                let found : look ◌==◌ to (write ◌==◌ n new_routes w.stations) ≡ Some new_routes = subst (λ (k : ℕ). look ◌==◌ k (write ◌==◌ n new_routes w.stations) ≡ Some new_routes) same (moved_there w n at there new_routes seen_so w.links) in
-                let one : Some new_routes ≡ Some a = sym found ∙ e in
-                let is : new_routes ≡ a = cc in
-                sym (ap (λ (x : Placed). charge_of link x.station.relay.ins) is) ∙ facts.charges link at (subst (λ (k : ℕ). look ◌==◌ k w.stations ≡ Some at) same there)
-            | inr o ↦ facts.charges link a (sym (look_write_other ℕ Placed ◌==◌ nat_self nat_is to n new_routes w.stations o) ∙ e)
-          ])
+      let to = (link_in link w.links).to in
+      elim (cases_Bool (n == to)) [
+        | inl y ↦
+            let same : n ≡ to = nat_is n to y in
+            let found : look ◌==◌ to (write ◌==◌ n new_routes w.stations) ≡ Some new_routes = subst (λ (k : ℕ). look ◌==◌ k (write ◌==◌ n new_routes w.stations) ≡ Some new_routes) same (moved_there w n at there new_routes seen_so w.links) in
+            let one : Some new_routes ≡ Some a = sym found ∙ e in
+            let is : new_routes ≡ a = cc in
+            sym (ap (λ (x : Placed). charge_of link x.station.relay.ins) is) ∙ facts.charges link at (subst (λ (k : ℕ). look ◌==◌ k w.stations ≡ Some at) same there)
+        | inr o ↦ facts.charges link a (sym (look_write_other ℕ Placed ◌==◌ nat_self nat_is to n new_routes w.stations o) ∙ e)
+      ])
       facts
 
 -- OTHER LINKS AND ROUTES, and nothing waits

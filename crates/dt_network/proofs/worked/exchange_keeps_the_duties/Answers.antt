@@ -16,16 +16,37 @@ pub returns-clause-duties : goal.returns-clause-duties
 unfolding gram_spelling packet_spelling gram_in packet_in packet_fault gram_fault life_of to_of lowered
 returns-clause-duties c = (
   record { clock = refl; most = omega arith },
-  (tt,
-  ((record { clock = refl; most = omega arith }, λ clear. record { flight = record { frame = first_frame sender; put = 0 }; left = (0, omega arith, refl); octets = refl; in_time = omega arith }),
-  (tt, (tt,
-  ((record { clock = refl; most = omega arith }, λ clear. record { flight = record { frame = first_frame relay; put = 40 }; left = (1, omega arith, refl); octets = refl; in_time = omega arith }),
-  (record { clock = refl; most = omega arith },
-  (tt,
-  ((record { clock = refl; most = omega arith }, λ clear. record { flight = record { frame = first_frame reader; put = 50 }; left = (2, omega arith, refl); octets = refl; in_time = omega arith }),
-  ((record { clock = refl; most = omega arith }, λ clear. record { flight = record { frame = first_frame back; put = 110 }; left = (3, omega arith, refl); octets = refl; in_time = omega arith }),
-  (tt,
-  (record { now = 110; told = refl; time = record { clock = refl; most = omega arith } }, tt))))))))))),
+  (
+    tt,
+    (
+      (record { clock = refl; most = omega arith }, λ clear. record { flight = record { frame = first_frame sender; put = 0 }; left = (0, omega arith, refl); octets = refl; in_time = omega arith }),
+      (
+        tt,
+        (
+          tt,
+          (
+            (record { clock = refl; most = omega arith }, λ clear. record { flight = record { frame = first_frame relay; put = 40 }; left = (1, omega arith, refl); octets = refl; in_time = omega arith }),
+            (
+              record { clock = refl; most = omega arith },
+              (
+                tt,
+                (
+                  (record { clock = refl; most = omega arith }, λ clear. record { flight = record { frame = first_frame reader; put = 50 }; left = (2, omega arith, refl); octets = refl; in_time = omega arith }),
+                  (
+                    (record { clock = refl; most = omega arith }, λ clear. record { flight = record { frame = first_frame back; put = 110 }; left = (3, omega arith, refl); octets = refl; in_time = omega arith }),
+                    (
+                      tt,
+                      (record { now = 110; told = refl; time = record { clock = refl; most = omega arith } }, tt),
+                    ),
+                  ),
+                ),
+              ),
+            ),
+          ),
+        ),
+      ),
+    ),
+  ),
 )
 
 -- src/worked.rt
