@@ -18,6 +18,8 @@ It refuses, each with page and line:
   from it;
 - a public name of the library, in C, Python or Rust, that the table of words of docs/library.md doesn't have, or has
   twice; and a name of that table that nothing has;
+- a sentence of the header or of docs/library.md that speaks of a law and isn't in the table of docs/laws.py; one of that
+  table that isn't in its file; and one whose law is gone, or has no such clause;
 - a script that can't be run as the pages say, since it isn't executable;
 - a must-fail edit whose text doesn't stand once in its file: the `rt ci` of some kits counts it for nothing, and passes;
 - two edits of a crate, or a planted bug without a name;
@@ -38,6 +40,7 @@ from typing import Iterator, NamedTuple
 
 import files as headings
 import headline
+import laws
 
 sys.path.insert(0, str(Path(__file__).resolve().parent.parent / "release"))
 import interface  # noqa: E402
@@ -703,6 +706,29 @@ def check_interface() -> Iterator[Complaint]:
                 yield Complaint(LIBRARY, 1, f"the table of words has {name} twice")
 
 
+# --- what pages for users say by a law
+
+
+def is_law(name: str) -> bool:
+    """Whether a public function has this contract: CRATE::LAW, or CRATE::LAW.CLAUSE."""
+    crate, _, rest = name.partition("::")
+    law, _, clause = rest.partition(".")
+    has = [set(it.ensures) for it in functions() if (it.crate, it.name) == (crate, law) and it.is_public]
+    return any(clause in it if clause else it for it in has)
+
+
+def check_laws() -> Iterator[Complaint]:
+    for page in (laws.HEADER, laws.LIBRARY):
+        for line, sentence in laws.unknown(page):
+            yield Complaint(page, line, f"it speaks of a law, and docs/laws.py doesn't know of which: {sentence[:80]}")
+    for claim in laws.CLAIMS:
+        if claim.says not in laws.text_of(claim.page):
+            yield Complaint(claim.page, 1, f"docs/laws.py has a sentence that isn't here: {claim.says[:80]}")
+        for law in claim.laws:
+            if not is_law(law):
+                yield Complaint(claim.page, 1, f"no such law: {law}, by which it says: {claim.says[:80]}")
+
+
 def complaints() -> Iterator[Complaint]:
     for page in PAGES:
         yield from check_links(page)
@@ -720,6 +746,7 @@ def complaints() -> Iterator[Complaint]:
     yield from check_headline()
     yield from check_scripts()
     yield from check_interface()
+    yield from check_laws()
 
 
 def main(words: list[str]) -> int:

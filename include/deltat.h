@@ -72,9 +72,8 @@
  *     Two machines round differently, and a clock that begins at a reboot begins anew. Charges are
  *     made longer to pay for rounding and drift (docs/premises.md), but no law says that this
  *     suffices.
- *   - A link has the same number at both of its ends, and the parameters are equal including
- *     `start`.
- *   - Every opening of a node but its first uses DT_START_AGAIN, with the links it had before.
+ *   - The parameters are equal including `start`.
+ *   - Every opening of a node but its first uses DT_START_AGAIN.
  *   - Services: every node of the network is a service, and no route is added while one is open.
  *
  * ---- 2 THE LOOP OF A PROGRAM ----

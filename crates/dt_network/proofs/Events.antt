@@ -5,25 +5,21 @@ use Rattle.std.proofs.Math.Seq.{drop-append_seam}
 use Rattle.std.proofs.lemmas.Bool.{cases_Bool}
 use Rattle.std.proofs.lemmas.List.Elements.{All-append}
 use Rattle.dt_flow_model.specs.Frames.{Mark}
-use Rattle.dt_world_laws.proofs.Linking.{event_kept}
-use Rattle.dt_world_laws.proofs.Settles.{answers_play}
 use Rattle.dt_world_model.proofs.Tables.{look_write, look_write_other, nat_is, nat_self}
-use Rattle.dt_world_model.specs.Relay.{Relay, emptied}
-use Rattle.dt_world_model.specs.Setup.{Setup, relay_at, routes_of}
-use Rattle.dt_world_model.specs.Station.{Event, Station, station_event}
+use Rattle.dt_world_model.specs.Station.{Event}
 use Rattle.dt_world_model.specs.Tables.{look, write}
 use Rattle.dt_world_model.specs.Tags.{bare_event, bare_station}
-use Rattle.dt_world_model.specs.World.{Copy, Placed, World, world_handler}
+use Rattle.dt_world_model.specs.World.{Copy, Placed, World}
 use Rattle.dt_world_model.specs.WorldFacts.{WorldFacts}
-use Rattle.dt_world_model.specs.WorldStep.{event_at, noted_at, occasion}
+use Rattle.dt_world_model.specs.WorldStep.{event_at}
 use Rattle.dt_endpoint.proofs.Following.{endpoint_follows}
 use Rattle.dt_endpoint.specs.Acts.{OutFrameValue, acts_of, frames_in}
 use Rattle.dt_endpoint.specs.Endpoints.{EndpointValue, after_event, moment_of, script_of}
 use Rattle.dt_endpoint.specs.Networks.{Follows, IsAt, frame_of, world_play}
 use Rattle.dt_network.proofs.Frames.{Ends, appended, put_under_way, still_under_way}
-use Rattle.dt_network.specs.Beside.{IsBeside, IsStationOf, IsUnderWay, routed}
+use Rattle.dt_network.specs.Beside.{IsBeside, IsStationOf, IsUnderWay}
 use Rattle.dt_network.specs.Duties.{KeepsTime}
-use Rattle.dt_network.specs.Network.{Network, clock_of, flights}
+use Rattle.dt_network.specs.Network.{Network, Setup, clock_of, flights}
 
 same_rest : (before xs ys : List OutFrameValue) → before ++ xs ≡ before ++ ys → xs ≡ ys
 same_rest before xs ys h = sym (drop-append_seam before xs) ∙ ap (drop (length before)) h ∙ drop-append_seam before ys
@@ -52,7 +48,6 @@ stays_station setup w v n m p e params now written other s = record {
   at = s.at;
   there = ap (look ◌==◌ m) written ∙ look_write_other ℕ Placed ◌==◌ nat_self nat_is m n p w.stations other ∙ s.there;
   clock = s.clock;
-  links = s.links;
   rules = s.rules ∙ sym params;
   past = omega (arith, s.past, now);
   state = s.state;
@@ -84,14 +79,6 @@ module _ (setup : Setup) (net : Network) (w : World) (h : IsBeside setup net w) 
     follows : Follows w n s.at event now e
     follows = endpoint_follows w n s.at event now e (is_at now time unspent)
 
-    links_stay : routed (routes_of n setup.routes) (emptied (world_play w n s.at event).1.relay) ≡ relay_at setup n
-    links_stay =
-        let before = emptied s.at.station.relay in
-        ap (λ (r : Relay Mark). routed (routes_of n setup.routes) r)
-        (answers_play (world_handler (occasion w n event)) (λ (st : Station Mark). emptied st.relay ≡ before) (station_event w.params (w.now + s.at.zero) event s.at.station) (noted_at w)
-        (event_kept before w.params (w.now + s.at.zero) event s.at.station refl))
-        ∙ s.links
-
     abbrev Kept : EndpointValue → Type 0
     Kept x = (x.rules ≡ w.params) × (x.latest ≤ w.now + s.at.zero) × (x.spent ≡ false → x.state ≡ bare_station (world_play w n s.at event).1)
 
@@ -111,7 +98,6 @@ module _ (setup : Setup) (net : Network) (w : World) (h : IsBeside setup net w) 
           at = there_now;
           there = look_write ℕ Placed ◌==◌ nat_self nat_is n there_now w.stations;
           clock = s.clock;
-          links = links_stay;
           rules = k.0;
           past = k.1;
           state = k.2;

@@ -8,16 +8,15 @@ use Rattle.dt_units.specs.declared.endpoints.Flow.{Flow}
 use Rattle.dt_units.specs.Flows.{IsFlow}
 use Rattle.dt_units.specs.Limits.{IsWithinLimits}
 use Rattle.dt_layout.specs.Carried.{life_of}
-use Rattle.dt_flow_model.specs.Frames.{Mark}
+use Rattle.dt_flow_model.specs.Frames.{Mark, marked_packet, value_in}
 use Rattle.dt_world_laws.proofs.Lifting.{lifted_fates, no_lift}
 use Rattle.dt_world_laws.proofs.Promise.{facts_are_safe}
 use Rattle.dt_world_model.specs.Relay.{charge_of}
-use Rattle.dt_world_model.specs.Setup.{Setup, new_world}
 use Rattle.dt_world_model.specs.Station.{Event, Read, Send, Station, Tick, station_with}
 use Rattle.dt_world_model.specs.Tables.{look, write}
 use Rattle.dt_world_model.specs.Tags.{bare_event}
 use Rattle.dt_world_model.specs.World.{World, view}
-use Rattle.dt_world_model.specs.WorldFacts.{WorldFacts}
+use Rattle.dt_world_model.specs.WorldFacts.{IsCopy, WorldFacts}
 use Rattle.dt_world_model.specs.WorldStep.{event_at, restart_at}
 use Rattle.dt_endpoint.specs.Acts.{OutFrameValue}
 use Rattle.dt_endpoint.specs.Calls.{arrive_event, arrive_refusal, read_answer, send_answer}
@@ -30,7 +29,7 @@ use Rattle.dt_items.specs.Unread.{first_piece, marked}
 use Rattle.dt_flow_model.specs.declared.rows.Given.{Given}
 use Rattle.dt_flow_model.specs.declared.rows.Taken as rows
 use Rattle.dt_flow_model.specs.Facts.{AllGivenFacts, Joined, Rising}
-use Rattle.dt_world_model.proofs.Tables.{flow_is, nat_is, nat_self}
+use Rattle.dt_world_model.proofs.Tables.{flow_is, look_write, nat_is, nat_self}
 use Rattle.dt_world_model.specs.Ledgers.{ledger_of}
 use Rattle.dt_world_model.specs.Tables.{same_flow}
 use Rattle.dt_world_model.specs.WorldStep.{Passes}
@@ -51,22 +50,18 @@ use Rattle.dt_network.proofs.Told.{read_told, send_items, send_told, taken_if, t
 use Rattle.dt_network.specs.Octets.{AreTaken, IsReadOf, IsTaken, Takes, TakesIf, TakesIn, all_read, items_read, read_by, read_if, read_in_step}
 use Rattle.dt_reports.specs.Told.{Told}
 use Rattle.dt_flow_model.specs.Safe.{SafeLedger}
-use Rattle.dt_world_model.specs.Relay.{lower_parcel}
-use Rattle.dt_world_model.specs.Tags.{bare_parcel}
 use Rattle.dt_world_model.specs.World.{placed}
-use Rattle.dt_world_model.specs.WorldStep.{occasion}
-use Rattle.dt_endpoint.specs.Acts.{acts_of, reports_in}
-use Rattle.dt_endpoint.specs.Endpoints.{moment_of, script_of}
+use Rattle.dt_world_model.specs.WorldStep.{items_with, occasion, restarted}
 use Rattle.dt_network.proofs.Booked.{Booked, again_booked, event_booked, new_booked, safe_untimed}
-use Rattle.dt_network.proofs.Booking.{arrival_free, free_books, untimed}
-use Rattle.dt_network.specs.Books.{AllFound, Book, FoundIn, IsSafeBook, book_after, book_all, book_by, book_from, book_of, items_in, new_book}
+use Rattle.dt_network.proofs.Booking.{brings, untimed}
+use Rattle.dt_network.specs.Books.{AllFound, Book, FoundIn, IsSafeBook, book_after, book_all, book_by, book_from, book_of, given_all, items_in, new_book, no_mark}
 use Rattle.dt_world_laws.proofs.Worlds.{placed_is}
 use Rattle.dt_world_model.specs.Host.{receiver_at}
 use Rattle.dt_world_model.specs.World.{Placed}
 use Rattle.dt_calls_laws.proofs.UnreadEnd.{unread_end}
 use Rattle.dt_network.specs.Steps.{network_by}
 use Rattle.dt_network.proofs.Events.{called, event_beside, is_at, stations_after, stays_station}
-use Rattle.dt_network.proofs.Rerouting.{booked_stands, calm_stands, calm_through, facts_stand, moved_there, same_life}
+use Rattle.dt_network.proofs.Rerouting.{IsSeen, booked_stands, calm_stands, calm_through, moved_there, relink_keeps, reroute_keeps, same_life}
 use Rattle.dt_relay.specs.Ways as ways
 use Rattle.dt_world_model.specs.declared.links.Route.{Route}
 use Rattle.dt_endpoint.specs.declared.answers.Routed.{Routed}
@@ -74,9 +69,10 @@ use Rattle.dt_network.proofs.Frames.{Ends}
 use Rattle.dt_network.proofs.Openings.{again_beside, network_begins, begun}
 use Rattle.dt_network.proofs.Outcomes.{Admits, IsLost, IsPieceOf, IsStill, ReadIsRefused, ReadsTo, SendIsRefused, SendsFrom, arrival_comes_to, followed_is_still, pulled_frame_is_still, pulled_report_is_still, read_comes_to, route_comes_to, same_is_still, send_comes_to, tick_comes_to}
 use Rattle.dt_network.proofs.Worlds.{Goes, goes_by_read, goes_by_restart, goes_by_send, goes_by_tick, goes_in_time, goes_late, is_named, late_calm, piece_goes, read_is_calm, life_again, restart_calm, restart_life, restart_loses, send_does, send_is_steady, tick_calm}
-use Rattle.dt_network.specs.Beside.{GoesBeside, GoesOn, GoesOnBy, IsBeside, IsLate, IsStationOf, IsUnderWay, KeepsAllFates, reroute, rerouted, stays}
+use Rattle.dt_network.specs.Beside.{GoesBeside, GoesOn, GoesOnBy, IsBeside, IsLate, IsStationOf, IsUnderWay, KeepsAllFates, on_link, stays}
 use Rattle.dt_network.specs.Duties.{IsInTime, Keeps, KeepsCall, KeepsDuties, KeepsFrom, KeepsTime}
-use Rattle.dt_network.specs.Network.{Flight, Network, flights, new_network, opened_with}
+use Rattle.dt_network.specs.Network.{Flight, Network, Options, Setup, flights, new_network, opened_with}
+use Rattle.dt_network.specs.Stations.{first_world, links_of, relink, relinked, reroute, rerouted}
 use Rattle.dt_network.specs.Steps.{AddRoute, AreSteps, Call, CallArrive, CallRead, CallSend, CallTick, Calls, Does, DoesFrom, Follow, IsStep, OpenAgain, Pass, PullFrame, PullReport, Step, network_after}
 
 -- the world after a step of the network, which goes on to it so, with what the step takes and reads of each flow
@@ -106,12 +102,12 @@ time_beside setup net w by limits h =
         now = ap (λ (k : ℕ). k + by) h.now;
         endpoints = λ n e found.
             let s = h.endpoints n e found in
-            record { at = s.at; there = s.there; clock = s.clock; links = s.links; rules = s.rules; past = omega (arith, s.past); state = s.state };
+            record { at = s.at; there = s.there; clock = s.clock; rules = s.rules; past = omega (arith, s.past); state = s.state };
         left = h.left;
         facts = goes.facts;
       };
       accounts = λ g joined sure. calm_account w later net (network_after (Pass by) net) g (TakesIn g (Pass by)) [] joined (others_calm w limits h.facts (Passes by) g tt refl tt tt) refl (λ s. record { reader = s.reader; there = s.there; spent = s.spent }) refl sure;
-      booked = λ found g b k. record { rows = k.rows; lives = k.lives };
+      booked = λ found g b k. record { rows = k.rows; given = k.given; lives = k.lives };
       none_spent = λ found g before s. before (record { reader = s.reader; there = s.there; spent = s.spent });
     }
 
@@ -136,7 +132,7 @@ module _ (setup : Setup) (net : Network) (w : World) (limits : IsWithinLimits w.
   still : (call : Call) → GoesOnBy call n w w → IsNoted call → IsStill e f → ((g : Flow) → Takes g call []) → ((g : Flow) → read_by g call ≡ []) → Next call
   still call on noted k takes_none unread =
       let here : IsStationOf setup w n f =
-      record { at = s.at; there = s.there; clock = s.clock; links = s.links; rules = k.rules ∙ s.rules; past = omega (arith, s.past, k.latest); state = λ unspent. k.state ∙ s.state (sym k.spent ∙ unspent) } in
+      record { at = s.at; there = s.there; clock = s.clock; rules = k.rules ∙ s.rules; past = omega (arith, s.past, k.latest); state = λ unspent. k.state ∙ s.state (sym k.spent ∙ unspent) } in
       let nothing : flights net.now (Some e) f ≡ [] = ap (λ (fs : List OutFrameValue). map (λ (g : OutFrameValue). let t : Flight = record { frame = g; put = net.now } in t) fs) k.frames in
       let same : net.left ++ flights net.now (Some e) f ≡ net.left = ap (λ (fs : List Flight). net.left ++ fs) nothing ∙ append-nil net.left in
       record {
@@ -151,7 +147,7 @@ module _ (setup : Setup) (net : Network) (w : World) (limits : IsWithinLimits w.
           facts = h.facts;
         };
         accounts = λ g joined sure. calm_account w w net after g (Takes g call) (read_by g call) joined (calm_same w g) (takes_none g) (spent_still net n e f g found k.spent) (unread g) sure;
-        booked = λ memory g b was. subst (Booked w g) (sym (noted g b)) (record { rows = was.rows ∙ sym (ap (λ (rs : List Told). book_all g (b.lives n) (items_in call) rs b.rows) k.reports); lives = was.lives });
+        booked = λ memory g b was. subst (Booked w g) (sym (noted g b)) (record { rows = was.rows ∙ sym (ap (λ (rs : List Told). book_all g (b.lives n) (items_in call) rs b.rows) k.reports); given = was.given ∙ sym (ap (λ (rs : List Told). given_all g (b.lives n) (items_in call) rs b.given) k.reports); lives = was.lives });
         none_spent = λ memory g before. none_spent net n e f g found memory before;
       }
 
@@ -160,12 +156,12 @@ module _ (setup : Setup) (net : Network) (w : World) (limits : IsWithinLimits w.
   Accounts call event = (g : Flow) (joined : Bool) → Sure net w g joined → Account w (event_at w n event (Some s.at)).1 after g (Takes g call) (read_by g call) joined
 
   -- the octets that the world notes for it are those of the call
-  abbrev SameItems : ℕ → Call → Event Mark → Type 0
-  SameItems now call event = (g : Flow) (rows : List rows.Taken) → book_all g (occasion w n event).life (occasion w n event).items (reports_in (acts_of (script_of now (bare_event event) e))) rows ≡ book_all g (placed w n).life (items_in call) (reports_in (acts_of (script_of now (bare_event event) e))) rows
+  abbrev SameItems : Call → Event Mark → Type 0
+  SameItems call event = (occasion w n event).items ≡ items_in call
 
-  by_event : (call : Call) (now : ℕ) → KeepsTime setup net n now → e.spent ≡ false → (event : Event Mark) → Ends now (bare_event event) e f → (goes : Goes w (event_at w n event (Some s.at)).1) → GoesOnBy call n w (event_at w n event (Some s.at)).1 → Accounts call event → IsNoted call → SameItems now call event → Next call
+  by_event : (call : Call) (now : ℕ) → KeepsTime setup net n now → e.spent ≡ false → (event : Event Mark) → Ends now (bare_event event) e f → (goes : Goes w (event_at w n event (Some s.at)).1) → GoesOnBy call n w (event_at w n event (Some s.at)).1 → Accounts call event → IsNoted call → SameItems call event → Next call
   by_event call now time unspent event ends goes on accounts noted same =
-      record { world = (event_at w n event (Some s.at)).1; goes_on = on; fates = goes.fates; beside = event_beside setup net w h n e s now time unspent event f ends goes.facts; accounts = accounts; none_spent = λ memory g before. none_spent net n e f g found memory before; booked = λ memory g b was. subst (Booked (event_at w n event (Some s.at)).1 g) (sym (noted g b)) (event_booked w n s.at s.there now e f (is_at setup net w h n e s now time unspent) event ends memory g b (items_in call) (same g) was) }
+      record { world = (event_at w n event (Some s.at)).1; goes_on = on; fates = goes.fates; beside = event_beside setup net w h n e s now time unspent event f ends goes.facts; accounts = accounts; none_spent = λ memory g before. none_spent net n e f g found memory before; booked = λ memory g b was. subst (Booked (event_at w n event (Some s.at)).1 g) (sym (noted g b)) (event_booked w n s.at s.there now e f (is_at setup net w h n e s now time unspent) event ends memory g b (items_in call) same was) }
 
   -- an event that takes nothing and reads nothing
   calm_event : (call : Call) (event : Event Mark) → e.spent ≡ false → ((g : Flow) → Calm w (event_at w n event (Some s.at)).1 g) → ((g : Flow) → Takes g call []) → ((g : Flow) → read_by g call ≡ []) → Accounts call event
@@ -185,7 +181,7 @@ module _ (setup : Setup) (net : Network) (w : World) (limits : IsWithinLimits w.
   by_tick now answer time (inr k) =
       by_event (CallTick now answer) now time k.0 Tick k.1 (goes_by_tick w n s.at s.there limits h.facts) (goes_by_tick w n s.at s.there limits h.facts).onward
       (calm_event (CallTick now answer) Tick k.0 (tick_calm w n s.at s.there limits h.facts) (λ g. refl) (λ g. refl))
-      (λ g b. refl) (λ g rows. refl)
+      (λ g b. refl) refl
 
   -- a send that is refused takes nothing of its flow
   none_if : (same : Bool) (answer : Sent) (items : List Item) → IsTaken answer items [] → TakesIf same answer items []
@@ -212,7 +208,7 @@ module _ (setup : Setup) (net : Network) (w : World) (limits : IsWithinLimits w.
       let goes = goes_by_send w n s.at s.there limits h.facts flow octets begin end is from (apart flow.from.0 flow.to.0 e.state.host.me k.from k.to) in
       by_event (CallSend now flow octets begin end answer) now time k.unspent (Send flow octets begin end) k.ends goes goes.onward
       (send_accounts now flow octets begin end answer time is k from)
-      (λ g b. refl) (λ g rows. refl)
+      (λ g b. refl) refl
 
   none_read_if : (same : Bool) (items : List Item) → items ≡ [] → read_if same items ≡ []
   none_read_if true items h = h
@@ -248,18 +244,17 @@ module _ (setup : Setup) (net : Network) (w : World) (limits : IsWithinLimits w.
       let goes = goes_by_read w n s.at s.there limits h.facts flow room is to (apart_from flow.from.0 flow.to.0 e.state.host.me k.to k.from) in
       by_event (CallRead now flow room buf answer) now time k.unspent (Read flow room) k.ends goes goes.onward
       (read_accounts now flow room buf answer time is k to)
-      (λ g b. refl) (λ g rows. refl)
+      (λ g b. refl) refl
 
   -- the copy of a datagram, and that it comes in time
   by_copy : (now link : ℕ) (datagram : List ℕ) (waited : ℕ) (answer : Received) → KeepsTime setup net n now → Admits now link datagram waited e f → (i : IsInTime net e link datagram waited) → IsUnderWay w.copies i.flight → Next (CallArrive now link datagram waited answer)
   by_copy now link datagram waited answer time k i under =
       let c = under.copy in
-      let on_link : c.link ≡ link = ap (λ (g : OutFrameValue). g.link) under.frame ∙ i.on_link in
       let octets : c.parcel.octets ≡ datagram = ap (λ (g : OutFrameValue). g.octets) under.frame ∙ i.octets in
       let ins : e.state.relay.ins ≡ s.at.station.relay.ins = ap (λ (st : Station (Unit {0})). st.relay.ins) (s.state k.unspent) in
-      let charge : charge_of c.link s.at.station.relay.ins ≡ charge_of link e.state.relay.ins = ap (λ (l : ℕ). charge_of l s.at.station.relay.ins) on_link ∙ ap (charge_of link) (sym ins) in
-      let event : arrive_event link datagram waited ≡ arrive_event c.link c.parcel.octets waited = ap (λ (l : ℕ). arrive_event l datagram waited) (sym on_link) ∙ ap (λ (os : List ℕ). arrive_event c.link os waited) (sym octets) in
-      let late : IsLate w n s.at c waited =
+      let charge : charge_of link s.at.station.relay.ins ≡ charge_of link e.state.relay.ins = ap (charge_of link) (sym ins) in
+      let event : arrive_event link datagram waited ≡ arrive_event link c.parcel.octets waited = ap (λ (os : List ℕ). arrive_event link os waited) (sym octets) in
+      let late : IsLate w n s.at link c waited =
       record {
         there = s.there;
         copy = under.there;
@@ -267,9 +262,12 @@ module _ (setup : Setup) (net : Network) (w : World) (limits : IsWithinLimits w.
         in_time = omega (arith, i.in_time, charge, under.put, h.now);
       } in
       let call = CallArrive now link datagram waited answer in
-      by_event call now time k.unspent (late_event c waited) (subst (λ (ev : Event (Unit {0})). Ends now ev e f) event k.ends) (goes_late w n s.at s.there limits h.facts c waited late) (goes_late w n s.at s.there limits h.facts c waited late).onward
-      (calm_event call (late_event c waited) k.unspent (late_calm w n s.at s.there limits h.facts c waited late) (λ g. refl) (λ g. refl))
-      (λ g b. refl) (λ g rows. free_books (script_of now (bare_event (late_event c waited)) e) g (placed w n).life (occasion w n (late_event c waited)).items rows (arrival_free e.rules (moment_of now e) c.link (bare_parcel (lower_parcel waited c.parcel)) e.state))
+      let is : IsCopy w.params w.now (view w) c = All-contains (IsCopy w.params w.now (view w)) w.copies c h.facts.copies under.there in
+      let comes = late_event (on_link link c) waited in
+      let goes = goes_late w n s.at s.there limits h.facts link c waited late in
+      by_event call now time k.unspent comes (subst (λ (ev : Event (Unit {0})). Ends now ev e f) event k.ends) goes goes.onward
+      (calm_event call comes k.unspent (late_calm w n s.at s.there limits h.facts link c waited late) (λ g. refl) (λ g. refl))
+      (λ g b. refl) (brings c.parcel.tag waited c.parcel.octets is.packet.gram late.below ∙ ap (λ (os : List ℕ). items_with (marked_packet no_mark (value_in os))) octets)
 
   by_arrival : (now link : ℕ) (datagram : List ℕ) (waited : ℕ) (answer : Received) → KeepsTime setup net n now → (arrive_refusal link datagram waited e ≡ None → IsInTime net e link datagram waited) → IsStill e f ⊎ Admits now link datagram waited e f → Next (CallArrive now link datagram waited answer)
   by_arrival now link datagram waited answer time owed (inl same) = still (CallArrive now link datagram waited answer) stays (λ g b. refl) same (λ g. refl) (λ g. refl)
@@ -278,12 +276,17 @@ module _ (setup : Setup) (net : Network) (w : World) (limits : IsWithinLimits w.
       by_copy now link datagram waited answer time k i (All-contains (IsUnderWay w.copies) net.left i.flight h.left i.left)
 
   -- A ROUTE IS ADDED: the station has one more
-  route_beside : (route : Route) → f ≡ with_route route e → IsStationOf setup (reroute w n s.at (s.at.station.relay.routes ++ route ∷ [])) n f
+  abbrev and_route : Route → List Route
+  and_route route = s.at.station.relay.routes ++ route ∷ []
+
+  same_but_routes : (route : Route) → IsSeen s.at (rerouted (and_route route) s.at)
+  same_but_routes route = record { zero = refl; life = refl; host = refl }
+
+  route_beside : (route : Route) → f ≡ with_route route e → IsStationOf setup (reroute w n s.at (and_route route)) n f
   route_beside route is = record {
-    at = rerouted (s.at.station.relay.routes ++ route ∷ []) s.at;
-    there = moved_there w n s.at s.there (s.at.station.relay.routes ++ route ∷ []);
+    at = rerouted (and_route route) s.at;
+    there = moved_there w n s.at s.there (rerouted (and_route route) s.at) (same_but_routes route) w.links;
     clock = s.clock;
-    links = s.links;
     rules = ap (λ (x : EndpointValue). x.rules) is ∙ s.rules;
     past = omega (arith, s.past, ap (λ (x : EndpointValue). x.latest) is);
     state = λ unspent. ap (λ (x : EndpointValue). x.state) is ∙ ap (λ (st : Station (Unit {0})). let t : Station (Unit {0}) = station_with st.host (ways.with_route route st.relay) in t) (s.state (sym (ap (λ (x : EndpointValue). x.spent) is) ∙ unspent));
@@ -293,9 +296,9 @@ module _ (setup : Setup) (net : Network) (w : World) (limits : IsWithinLimits w.
   by_route route answer (inl same) = still (AddRoute route answer) (inl refl) (λ g b. refl) (same_is_still e f same) (λ g. refl) (λ g. refl)
   by_route route answer (inr is) =
       let call = AddRoute route answer in
-      let routes = s.at.station.relay.routes ++ route ∷ [] in
-      let v = reroute w n s.at routes in
-      let facts = facts_stand w n s.at s.there routes h.facts in
+      let new = rerouted (and_route route) s.at in
+      let seen = same_but_routes route in
+      let v = reroute w n s.at (and_route route) in
       let none_left : drop (length e.frames) f.frames ≡ [] = ap (λ (x : EndpointValue). drop (length e.frames) x.frames) is ∙ drop-length e.frames in
       let none_told : drop (length e.reports) f.reports ≡ [] = ap (λ (x : EndpointValue). drop (length e.reports) x.reports) is ∙ drop-length e.reports in
       let nothing : flights net.now (Some e) f ≡ [] = ap (λ (fs : List OutFrameValue). map (λ (g : OutFrameValue). let t : Flight = record { frame = g; put = net.now } in t) fs) none_left in
@@ -307,38 +310,42 @@ module _ (setup : Setup) (net : Network) (w : World) (limits : IsWithinLimits w.
         beside = record {
           params = h.params;
           now = h.now;
-          endpoints = stations_after setup net.endpoints v n f (route_beside route is) (λ m g other found. stays_station setup w v n m (rerouted routes s.at) g refl refl refl other (h.endpoints m g found));
+          endpoints = stations_after setup net.endpoints v n f (route_beside route is) (λ m g other found. stays_station setup w v n m new g refl refl refl other (h.endpoints m g found));
           left = subst (λ (fs : List Flight). All (IsUnderWay w.copies) fs) (sym same) h.left;
-          facts = facts;
+          facts = reroute_keeps w n s.at s.there (and_route route) h.facts;
         };
-        accounts = λ g joined sure. calm_account w v net after g (Takes g call) (read_by g call) joined (calm_stands w n s.at s.there routes g) refl (spent_still net n e f g found (ap (λ (x : EndpointValue). x.spent) is)) refl sure;
-        booked = λ memory g b was. booked_stands w n s.at s.there routes g _ (record { rows = was.rows ∙ sym (ap (λ (rs : List Told). book_all g (b.lives n) (items_in call) rs b.rows) none_told); lives = was.lives });
+        accounts = λ g joined sure. calm_account w v net after g (Takes g call) (read_by g call) joined (calm_stands w n s.at s.there new seen w.links g) refl (spent_still net n e f g found (ap (λ (x : EndpointValue). x.spent) is)) refl sure;
+        booked = λ memory g b was. booked_stands w n s.at s.there new seen w.links g _ (record { rows = was.rows ∙ sym (ap (λ (rs : List Told). book_all g (b.lives n) (items_in call) rs b.rows) none_told); given = was.given ∙ sym (ap (λ (rs : List Told). given_all g (b.lives n) (items_in call) rs b.given) none_told); lives = was.lives });
         none_spent = λ memory g before. none_spent net n e f g found memory before;
       }
 
-  -- A NODE OPENS AGAIN: its station has the routes that it is handed, and starts again
-  by_opening : (again : Option ℕ) (routes : List Route) (now : ℕ) → KeepsTime setup net n now → f ≡ opened_with setup n (Some now) routes → Next (OpenAgain again routes)
-  by_opening again routes now time is =
-      let call = OpenAgain again routes in
-      let at = rerouted routes s.at in
-      let u = reroute w n s.at routes in
-      let there = moved_there w n s.at s.there routes in
-      let facts = facts_stand w n s.at s.there routes h.facts in
-      let goes = goes_by_restart u n at there limits facts in
-      let v = (restart_at u n (Some at)).1 in
+  -- A NODE OPENS AGAIN: its station starts again, and has the links and routes that it is handed
+  by_opening : (again : Option ℕ) (options : Options) (now : ℕ) → KeepsTime setup net n now → f ≡ opened_with setup n (Some now) options → Next (OpenAgain again options)
+  by_opening again options now time is =
+      let call = OpenAgain again options in
+      let goes = goes_by_restart w n s.at s.there limits h.facts in
+      let u = (restart_at w n (Some s.at)).1 in
+      let at = restarted w.params w.now s.at in
+      let new = relinked options at in
+      let there : look ◌==◌ n u.stations ≡ Some at = look_write ℕ Placed ◌==◌ nat_self nat_is n at w.stations in
+      let seen : IsSeen at new = record { zero = refl; life = refl; host = refl } in
+      let stations = write ◌==◌ n new u.stations in
+      let links = links_of stations stations in
+      let v = relink u n at options in
       record {
         world = v;
-        goes_on = (u, record { at = s.at; there = s.there; is = refl }, goes.onward);
+        goes_on = record { at = s.at; there = s.there; is = refl };
         fates = goes.fates;
-        beside = again_beside setup net w h n e s (is_named w n s.at s.there limits h.facts) now time routes f is goes.facts;
+        beside = again_beside setup net w h n e s (is_named w n s.at s.there limits h.facts) now time options f is (relink_keeps u n at there options goes.facts);
         accounts = λ g joined sure. elim (cases_Bool (n == g.to.0)) [
           | inl y ↦
               let same = nat_is n g.to.0 y in
-              let lost = restart_loses u n at there limits facts g same in
-              restart_account w v after g (Takes g call) [] joined h.facts (record { items = lost.items; gone = lost.gone }) (restart_life u n at there limits facts g same ∙ ap (λ (k : ℕ). k + 1) (same_life w n s.at s.there routes g.to.0)) refl refl
-          | inr o ↦ calm_account w v net after g (Takes g call) [] joined (calm_through w u v g (calm_stands w n s.at s.there routes g) (restart_calm u n at there limits facts g o)) refl (spent_restart net n e f g found o) refl sure
+              let lost = restart_loses w n s.at s.there limits h.facts g same in
+              let calm = calm_stands u n at there new seen links g in
+              restart_account w v after g (Takes g call) [] joined h.facts (record { items = calm.items ∙ lost.items; gone = calm.steady.gone ∙ lost.gone }) (calm.steady.life ∙ restart_life w n s.at s.there limits h.facts g same) refl refl
+          | inr o ↦ calm_account w v net after g (Takes g call) [] joined (calm_through w u v g (restart_calm w n s.at s.there limits h.facts g o) (calm_stands u n at there new seen links g)) refl (spent_restart net n e f g found o) refl sure
         ];
-        booked = λ memory g b was. again_booked u n at g b (λ m same. life_again u n at there limits facts m same) (booked_stands w n s.at s.there routes g b was);
+        booked = λ memory g b was. booked_stands u n at there new seen links g _ (again_booked w n s.at g b (λ m same. life_again w n s.at s.there limits h.facts m same) was);
         none_spent = λ memory g before. none_spent net n e f g found memory before;
       }
 
@@ -352,7 +359,7 @@ module _ (setup : Setup) (net : Network) (w : World) (limits : IsWithinLimits w.
   call_beside PullReport does keeps = still PullReport stays (λ g b. refl) (pulled_report_is_still e f does) (λ g. refl) (λ g. refl)
   call_beside (Follow flow done) does keeps = still (Follow flow done) stays (λ g b. refl) (followed_is_still flow done setup n e f does) (λ g. refl) (λ g. refl)
   call_beside (AddRoute route answer) does keeps = by_route route answer (route_comes_to answer route e f does)
-  call_beside (OpenAgain again routes) does keeps = by_opening again routes keeps.now keeps.time (does ∙ ap (λ (o : Option ℕ). opened_with setup n o routes) keeps.told)
+  call_beside (OpenAgain again options) does keeps = by_opening again options keeps.now keeps.time (does ∙ ap (λ (o : Option ℕ). opened_with setup n o options) keeps.told)
 
 -- A STEP
 by_node : (setup : Setup) (net : Network) (w : World) → IsWithinLimits w.params → IsBeside setup net w → (n : ℕ) (call : Call) (f : EndpointValue) (o : Option EndpointValue) → look ◌==◌ n net.endpoints ≡ o → DoesFrom setup n call f o → KeepsFrom setup net n call o
@@ -371,8 +378,8 @@ steps_beside setup net w limits h (s ∷ steps) does keeps =
     let next = step_beside setup net w (subst IsWithinLimits (sym h.params) limits) h s does.0 keeps.0 in
     (h, λ f. facts_are_safe w f h.facts, (next.world, next.goes_on, next.fates, steps_beside setup (network_after s net) next.world limits next.beside steps does.1 keeps.1))
 
-pub network_goes : (setup : Setup) (steps : List Step) → IsWithinLimits setup.params → AreSteps setup steps (new_network setup) → KeepsDuties setup steps (new_network setup) → GoesBeside setup steps (new_network setup) (new_world setup)
-network_goes setup steps limits does keeps = steps_beside setup (new_network setup) (new_world setup) limits (network_begins setup) steps does keeps
+pub network_goes : (setup : Setup) (steps : List Step) → IsWithinLimits setup.params → AreSteps setup steps (new_network setup) → KeepsDuties setup steps (new_network setup) → GoesBeside setup steps (new_network setup) (first_world setup)
+network_goes setup steps limits does keeps = steps_beside setup (new_network setup) (first_world setup) limits (network_begins setup) steps does keeps
 
 -- what holds of given rows holds of the first of them
 record Fronts (taken : List rows.Taken) (given : List Given) : Type 0 where
@@ -413,7 +420,7 @@ memory_parts s steps before after first last life rise on (inr less) = (inr (ome
 
 new_unspent : (setup : Setup) (g : Flow) → IsSpentAt (new_network setup) g → ⊥
 new_unspent setup g s =
-    let b = begun setup setup.stations g.to.0 s.reader s.there in
+    let b = begun setup setup.nodes g.to.0 s.reader s.there in
     let no : false ≡ true = ap (λ (x : EndpointValue). x.spent) b.is ∙ s.spent in
     absurd cc
 
@@ -443,7 +450,7 @@ steps_read setup net w limits h (s ∷ steps) does keeps g joined sure =
 
 pub network_reads : (setup : Setup) (steps : List Step) (f : Flow) → IsWithinLimits setup.params → AreSteps setup steps (new_network setup) → KeepsDuties setup steps (new_network setup) → (taken : List Item) × AreTaken f steps taken × IsReadOf false (all_read f steps) taken
 network_reads setup steps f limits does keeps =
-    let w = new_world setup in
+    let w = first_world setup in
     let start : rows_gone w f ≡ [] = take-nil (length (ledger_of w.ledgers f).given - length (view w f).unread) in
     let r = steps_read setup (new_network setup) w limits (network_begins setup) steps does keeps f false (λ e. inl (inl start)) in
     let rows_are : rows_gone r.last f ≡ r.rows = r.gone ∙ ap (λ (rs : List Given). rs ++ r.rows) start in
@@ -463,7 +470,7 @@ not_spent false h = refl
 
 pub network_tells : (setup : Setup) (steps : List Step) (f : Flow) → IsWithinLimits setup.params → AreSteps setup steps (new_network setup) → KeepsDuties setup steps (new_network setup) → AllFound steps → IsSafeBook f (network_by steps (new_network setup)) (book_of f steps (new_network setup) new_book) (all_read f steps)
 network_tells setup steps f limits does keeps found =
-    let w = new_world setup in
+    let w = first_world setup in
     let start : rows_gone w f ≡ [] = take-nil (length (ledger_of w.ledgers f).given - length (view w f).unread) in
     let r = steps_read setup (new_network setup) w limits (network_begins setup) steps does keeps f false (λ e. inl (inl start)) in
     let rows_are : rows_gone r.last f ≡ r.rows = r.gone ∙ ap (λ (rs : List Given). rs ++ r.rows) start in
@@ -475,6 +482,7 @@ network_tells setup steps f limits does keeps found =
     let safe : SafeLedger (placed r.last f.from.0).life (map untimed (ledger_of r.last.ledgers f).taken) given reads_told = safe_untimed (placed r.last f.from.0).life (ledger_of r.last.ledgers f).taken given reads_told (facts_are_safe r.last f r.facts).ledger in
     record {
       given = given;
+      accepted = was.given;
       reads = reads_told;
       safe = subst (λ (life : ℕ). SafeLedger life b.rows given reads_told) (was.lives f.from.0) (subst (λ (ts : List rows.Taken). SafeLedger (placed r.last f.from.0).life ts given reads_told) was.rows safe);
       gone = r.rows;

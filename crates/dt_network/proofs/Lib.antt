@@ -3,6 +3,7 @@ mod Outcomes
 mod Pieces
 mod Worlds
 mod Events
+mod Tabled
 mod Rerouting
 mod Openings
 mod Away
@@ -14,3 +15,4 @@ mod Told
 mod Going
 mod Booking
 mod Booked
+mod Settled

@@ -34,7 +34,7 @@ use Rattle.dt_endpoint.specs.Counts.{Counted, counts_refused}
 use Rattle.dt_endpoint.specs.Endpoints.{EndpointValue, with_followed, with_refused, with_route}
 use Rattle.dt_network.proofs.Frames.{Ends}
 use Rattle.dt_network.specs.Steps.{Does, Follow}
-use Rattle.dt_world_model.specs.Setup.{Setup}
+use Rattle.dt_network.specs.Network.{Setup}
 
 -- NOTHING that the network sees: what the endpoint keeps of its node stays, and no frame is appended
 pub record IsStill (e f : EndpointValue) : Type 0 where
@@ -98,11 +98,11 @@ done_or_same (Some r) answer e f done h = inl (record { same = h.1; because = ap
 done_or_same None answer e f done h = inr (refl, h)
 
 -- what holds of each answer of some tests holds of the one that refuses
-abbrev AllAnswers : {A : Type 0} → (A → Type 0) → List (Bool × A) → Type 0
+abbrev pub AllAnswers : {A : Type 0} → (A → Type 0) → List (Bool × A) → Type 0
 AllAnswers P [] = Unit {0}
 AllAnswers P (t ∷ ts) = P t.1 × AllAnswers P ts
 
-refusal_is : {A : Type 0} (P : A → Type 0) (tests : List (Bool × A)) (a : A) → AllAnswers P tests → first_refusal tests ≡ Some a → P a
+pub refusal_is : {A : Type 0} (P : A → Type 0) (tests : List (Bool × A)) (a : A) → AllAnswers P tests → first_refusal tests ≡ Some a → P a
 refusal_is P [] a all h = absurd cc
 refusal_is P (t ∷ ts) a all h =
     elim (cases_Bool t.0) [

@@ -15,7 +15,7 @@ use Rattle.dt_world_laws.proofs.Lifting.{lifted_fates}
 use Rattle.dt_world_laws.proofs.Worlds.{GoesTo, event_keeps, possible_here, step_keeps_world}
 use Rattle.dt_endpoint.proofs.Waited.{late_can_come}
 use Rattle.dt_endpoint.specs.Networks.{ComesLate, late_event}
-use Rattle.dt_network.specs.Beside.{IsLate, KeepsAllFates, Onward, by_event, by_late, stays}
+use Rattle.dt_network.specs.Beside.{IsLate, KeepsAllFates, Onward, by_event, by_late, on_link, stays}
 use Rattle.std.specs.Prelude.{unwrap_or}
 use Rattle.dt_reports.specs.Entries.{Entry}
 use Rattle.dt_world_laws.proofs.Books.{no_placed}
@@ -81,22 +81,26 @@ module _ (w : World) (n : ℕ) (at : Placed) (there : look ◌==◌ n w.stations
   pub goes_by_restart : Goes w (restart_at w n (Some at)).1
   goes_by_restart = goes_by w limits facts (Restarts n) (restart_at w n (Some at)).1 tt (rw there refl) (ap (λ (o : Option Placed). (restart_at w n o).1) there)
 
-  pub goes_late : (c : Copy) (waited : ℕ) → IsLate w n at c waited → Goes w (event_at w n (late_event c waited) (Some at)).1
-  goes_late c waited late =
-      let comes : ComesLate w n at c waited = record { there = there; copy = All-contains (IsCopy w.params w.now (view w)) w.copies c facts.copies late.copy; below = late.below; in_time = late.in_time } in
-      let e = late_event c waited in
-      let kept = event_keeps w n at there facts limits e (possible_here w n at there facts e (late_can_come w n at c waited facts comes)) in
-      record { onward = by_late n at c waited late stays; facts = kept.0; fates = fates_kept w (event_at w n e (Some at)).1 kept }
+  -- a copy on any link there
+  comes_late : (link : ℕ) (c : Copy) (waited : ℕ) → IsLate w n at link c waited → ComesLate w n at (on_link link c) waited
+  comes_late link c waited late =
+      let is : IsCopy w.params w.now (view w) c = All-contains (IsCopy w.params w.now (view w)) w.copies c facts.copies late.copy in
+      record { there = there; copy = record { age = is.age; packet = is.packet }; below = late.below; in_time = late.in_time }
+
+  pub goes_late : (link : ℕ) (c : Copy) (waited : ℕ) → IsLate w n at link c waited → Goes w (event_at w n (late_event (on_link link c) waited) (Some at)).1
+  goes_late link c waited late =
+      let e = late_event (on_link link c) waited in
+      let kept = event_keeps w n at there facts limits e (possible_here w n at there facts e (late_can_come w n at (on_link link c) waited facts (comes_late link c waited late))) in
+      record { onward = by_late n at link c waited late stays; facts = kept.0; fates = fates_kept w (event_at w n e (Some at)).1 kept }
 
   -- WHAT FLOWS TOOK and what is gone of them, after each
   pub tick_calm : (g : Flow) → Calm w (event_at w n Tick (Some at)).1 g
   tick_calm g = subst (λ (v : World). Calm w v g) (here Tick) (others_calm w limits facts (Ticks n) g tt (rw there refl) tt tt)
 
-  pub late_calm : (c : Copy) (waited : ℕ) → IsLate w n at c waited → (g : Flow) → Calm w (event_at w n (late_event c waited) (Some at)).1 g
-  late_calm c waited late g =
-      let comes : ComesLate w n at c waited = record { there = there; copy = All-contains (IsCopy w.params w.now (view w)) w.copies c facts.copies late.copy; below = late.below; in_time = late.in_time } in
-      let e = late_event c waited in
-      arrival_calm w n at c.link (lower_parcel waited c.parcel) g there facts (event_keeps w n at there facts limits e (possible_here w n at there facts e (late_can_come w n at c waited facts comes)))
+  pub late_calm : (link : ℕ) (c : Copy) (waited : ℕ) → IsLate w n at link c waited → (g : Flow) → Calm w (event_at w n (late_event (on_link link c) waited) (Some at)).1 g
+  late_calm link c waited late g =
+      let e = late_event (on_link link c) waited in
+      arrival_calm w n at link (lower_parcel waited c.parcel) g there facts (event_keeps w n at there facts limits e (possible_here w n at there facts e (late_can_come w n at (on_link link c) waited facts (comes_late link c waited late))))
 
   at_node : (m : ℕ) (e : Event Mark) → m ≡ n → at_station w m e ≡ event_at w n e (Some at)
   at_node m e same = subst (λ (k : ℕ). at_station w k e ≡ event_at w n e (Some at)) (sym same) (ap (event_at w n e) there)

@@ -2,11 +2,10 @@
 use Rattle.std.specs.Prelude.{◌≡◌, ◌==◌, ℕ, ◌+◌, ◌-◌, ◌≤◌, List, [], ◌∷◌, Contains, Option, Some, None}
 use Rattle.dt_flow_model.specs.Keeping.{most_moment}
 use Rattle.dt_world_model.specs.Relay.{charge_of}
-use Rattle.dt_world_model.specs.Setup.{Setup}
 use Rattle.dt_world_model.specs.Tables.{look}
 use Rattle.dt_endpoint.specs.Calls.{arrive_refusal}
 use Rattle.dt_endpoint.specs.Endpoints.{EndpointValue}
-use Rattle.dt_network.specs.Network.{Flight, Network, clock_of}
+use Rattle.dt_network.specs.Network.{Flight, Network, Setup, clock_of}
 use Rattle.dt_network.specs.Steps.{AddRoute, Call, CallArrive, CallRead, CallSend, CallTick, Calls, Follow, OpenAgain, Pass, PullFrame, PullReport, Step, network_after}
 
 -- CLOCKS ARE ALIKE: each goes as the network's moment does, from a zero of its own, over restarts too
@@ -14,11 +13,10 @@ pub record KeepsTime (setup : Setup) (net : Network) (n now : ℕ) : Type 0 wher
   pub clock : now ≡ net.now + clock_of setup n
   pub most : now ≤ most_moment
 
--- LINKS ARE IN TIME: the octets are those of a frame that left on this link, and it was under way no longer than the link's charge and what the datagram is said to have waited
+-- LINKS ARE IN TIME: the octets are those of a frame that left some node, on whichever link, and it was under way no longer than the charge of the link on which it comes and what the datagram is said to have waited
 pub record IsInTime (net : Network) (e : EndpointValue) (link : ℕ) (datagram : List ℕ) (waited : ℕ) : Type 0 where
   pub flight : Flight
   pub left : Contains net.left flight
-  pub on_link : flight.frame.link ≡ link
   pub octets : flight.frame.octets ≡ datagram
   pub in_time : net.now - flight.put ≤ charge_of link e.state.relay.ins + waited
 
@@ -38,7 +36,7 @@ KeepsCall setup net n PullFrame e = Unit {0}
 KeepsCall setup net n PullReport e = Unit {0}
 KeepsCall setup net n (AddRoute route answer) e = Unit {0}
 KeepsCall setup net n (Follow flow done) e = Unit {0}
-KeepsCall setup net n (OpenAgain again routes) e = StartsAgain setup net n again
+KeepsCall setup net n (OpenAgain again options) e = StartsAgain setup net n again
 
 abbrev pub KeepsFrom : Setup → Network → ℕ → Call → Option EndpointValue → Type 0
 KeepsFrom setup net n call None = ⊥

@@ -1,6 +1,7 @@
 pub mod Network
 pub mod Steps
 pub mod Duties
+pub mod Stations
 pub mod Beside
 pub mod Away
 pub mod Octets

@@ -3,7 +3,6 @@ use Rattle.std.specs.Prelude.{◌≡◌, ◌==◌, ℕ, ◌+◌, Bool, true, fal
 use Rattle.dt_units.specs.declared.endpoints.Flow.{Flow}
 use Rattle.dt_units.specs.Flows.{IsFlow}
 use Rattle.dt_world_model.specs.declared.links.Route.{Route}
-use Rattle.dt_world_model.specs.Setup.{Setup}
 use Rattle.dt_world_model.specs.Tables.{look, write}
 use Rattle.dt_endpoint.specs.declared.answers.Ticked.{Ticked}
 use Rattle.dt_endpoint.specs.declared.answers.Sent.{Sent}
@@ -12,7 +11,7 @@ use Rattle.dt_endpoint.specs.declared.answers.Delivered.{Delivered}
 use Rattle.dt_endpoint.specs.declared.answers.Routed.{Routed}
 use Rattle.dt_endpoint.specs.Calls.{AddsRoute, Arrives, Reads, Sends, Ticks}
 use Rattle.dt_endpoint.specs.Endpoints.{EndpointValue, with_followed}
-use Rattle.dt_network.specs.Network.{Network, flights, opened_with}
+use Rattle.dt_network.specs.Network.{Network, Options, Setup, flights, opened_with}
 
 -- A CALL with its answer. Of a read it has the room of the buffer, and the octets that stood in it after the call
 pub data Call : Type 0 where
@@ -25,8 +24,8 @@ pub data Call : Type 0 where
   AddRoute : (route : Route) → (answer : Routed) → Call
   -- whether there was memory for it
   Follow : (flow : Flow) → (done : Bool) → Call
-  -- the endpoint that was there is gone, and the node opens again, with these routes: those that it had, or others
-  OpenAgain : (again : Option ℕ) → (routes : List Route) → Call
+  -- the endpoint that was there is gone, and the node opens again, with these links and routes: those that it had, or others
+  OpenAgain : (again : Option ℕ) → (options : Options) → Call
 
 -- WHAT A CALL DOES to the endpoint of a node: each line is the contract of the call of that name
 abbrev pub Does : Setup → ℕ → Call → EndpointValue → EndpointValue → Type 0
@@ -39,7 +38,7 @@ Does setup n PullReport e f = f ≡ record e { reports = drop 1 e.reports }
 Does setup n (AddRoute route answer) e f = AddsRoute answer route e f
 Does setup n (Follow flow true) e f = f ≡ with_followed flow e
 Does setup n (Follow flow false) e f = f ≡ e
-Does setup n (OpenAgain again routes) e f = f ≡ opened_with setup n again routes
+Does setup n (OpenAgain again options) e f = f ≡ opened_with setup n again options
 
 -- A STEP: so many milliseconds pass; or a call is made of a node, with the endpoint after it
 pub data Step : Type 0 where

@@ -8,33 +8,36 @@ ghost use Rattle.std.specs.Prelude.{ℕ, ◌≡◌, ◌==◌, false, List, None,
 ghost use Rattle.dt_items.specs.declared.item.Item.{Item};
 ghost use Rattle.dt_units.specs.declared.endpoints.Flow.{Flow};
 ghost use Rattle.dt_units.specs.Limits.{IsWithinLimits};
-ghost use Rattle.dt_world_model.specs.Setup.{Setup, new_world};
 ghost use Rattle.dt_units.specs.declared.parameters.Params.{Params};
 ghost use Rattle.dt_world_model.specs.declared.links.InLink.{InLink};
 ghost use Rattle.dt_world_model.specs.declared.links.OutLink.{OutLink};
 ghost use Rattle.dt_world_model.specs.declared.links.Route.{Route};
+ghost use Rattle.dt_flow_model.specs.declared.rows.Fate.TheVariants.{Acked};
+ghost use Rattle.dt_flow_model.specs.Ledger.{row_at};
 ghost use Rattle.dt_world_model.specs.Tables.{look};
 ghost use Rattle.dt_world_model.specs.World.{Placed, World};
 ghost use Rattle.dt_world_model.specs.WorldFacts.{SafeWorld, WorldFacts};
 ghost use Rattle.dt_endpoint.specs.Endpoints.{opened};
 ghost use Rattle.dt_network.specs.Away.{WasAway, open_at_once, opened_at_once};
 ghost use Rattle.dt_network.specs.Beside.{GoesBeside};
-ghost use Rattle.dt_network.specs.Books.{AllFound, IsSafeBook, book_of, new_book};
+ghost use Rattle.dt_network.specs.Books.{AllFound, Book, IsSafeBook, WasAccepted, book_of, new_book};
 ghost use Rattle.dt_network.specs.Duties.{KeepsDuties};
-ghost use Rattle.dt_network.specs.Network.{new_network};
+ghost use Rattle.dt_network.specs.Network.{Network, Setup, new_network};
 ghost use Rattle.dt_network.specs.Octets.{AreTaken, IsReadOf, all_read};
+ghost use Rattle.dt_network.specs.Stations.{first_world};
 ghost use Rattle.dt_network.specs.Steps.{AreSteps, Step, network_by};
 
 pub use worked::exchange_keeps_the_duties;
 
 /// A NETWORK IS A WORLD. Whatever calls a program makes of the endpoints of a network: where it keeps its
-/// duties, a world of the definitions goes beside the network, from the new world of the same setup.
+/// duties, a world of the definitions goes beside the network, from the first world of the same setup.
 /// Before the calls and after each of them every endpoint is its station, every frame that left is a
 /// copy of it, and the world is safe; from call to call it goes on by its steps, and no fate changes
-/// that isn't open. Routes are no duty: a call may add one, and a node may open again with others than
-/// it had. Then its station of the world has those too, and nothing else of the world is other.
+/// that isn't open. A link is a node's own: what left any node may come to any node, on any link there,
+/// whose charge alone counts. Links and routes are no duty: a call may add a route, and a node may open
+/// again with others than it had. Then its station of the world has those too.
 pub fn network_is_a_world()
-    ensures { (setup : Setup) (steps : List Step) → IsWithinLimits setup.params → AreSteps setup steps (new_network setup) → KeepsDuties setup steps (new_network setup) → GoesBeside setup steps (new_network setup) (new_world setup) }
+    ensures { (setup : Setup) (steps : List Step) → IsWithinLimits setup.params → AreSteps setup steps (new_network setup) → KeepsDuties setup steps (new_network setup) → GoesBeside setup steps (new_network setup) (first_world setup) }
 {}
 
 /// WHAT IS READ IS WHAT WAS SENT. Where a program keeps its duties, the octets that the reads of a flow
@@ -61,10 +64,18 @@ pub fn node_that_was_away_opens_at_once()
 
 /// THE LEDGER THAT IS TOLD IS SAFE. Where a program keeps its duties and every call finds memory, the
 /// reports `Took`, `Settled` and `Uncertain` tell a row for each octet that the sends of a flow took, with
-/// its fate; and there are rows of octets that were given, in order and each at the place of its octet,
-/// such that what was settled was given, and what was passed over is uncertain or of an earlier opening
-/// of its sender. The last of them are what is unread at the reader; those before were read, as the reads
-/// answered, but for some that were given before the reader's last opening.
+/// its fate, and the reports `Accepted` one for each octet that its reader accepted, with the life of the
+/// reader in which it did. No report tells at which place of the sends an accepted octet stands. But there
+/// is a place for each of them, in order, at which the same octet was sent, such that what was settled was
+/// accepted, and what was passed over is uncertain or of an earlier opening of its sender. The last of the
+/// accepted are what is unread at the reader; those before were read, as the reads answered, but for some
+/// that were accepted before the reader's last opening.
 pub fn reports_tell_a_safe_ledger()
     ensures { (setup : Setup) (steps : List Step) (f : Flow) → IsWithinLimits setup.params → AreSteps setup steps (new_network setup) → KeepsDuties setup steps (new_network setup) → AllFound steps → IsSafeBook f (network_by steps (new_network setup)) (book_of f steps (new_network setup) new_book) (all_read f steps) }
+{}
+
+/// WHAT WAS SETTLED WAS ACCEPTED. In such a book each octet that the sender's reports settled is among
+/// those that the reader's reports `Accepted` tell, with its marks, however often either node opened again.
+pub fn what_was_settled_was_accepted()
+    ensures { (f : Flow) (net : Network) (book : Book) (read : List Item) (place : ℕ) → IsSafeBook f net book read → (row_at book.rows place).fate ≡ Acked → WasAccepted book.given (row_at book.rows place) }
 {}

@@ -7,7 +7,6 @@ use Rattle.std.proofs.lemmas.List.{length-append, length-map}
 use Rattle.dt_units.specs.declared.endpoints.Flow.{Flow}
 use Rattle.dt_reports.specs.declared.faults.Refusal.{Refusal}
 use Rattle.dt_world_model.proofs.Tables.{nat_is}
-use Rattle.dt_world_model.specs.Setup.{Setup}
 use Rattle.dt_world_model.specs.Station.{Tick}
 use Rattle.dt_world_model.specs.Tables.{look}
 use Rattle.dt_world_model.specs.WorldStep.{first_refusal}
@@ -18,7 +17,7 @@ use Rattle.dt_endpoint.specs.declared.answers.Ticked.{Ticked}
 use Rattle.dt_endpoint.specs.declared.answers.Ticked.TheVariants as ticked
 use Rattle.dt_endpoint.specs.Calls.{arrive_event, arrive_refusal, send_answer}
 use Rattle.dt_endpoint.specs.Endpoints.{EndpointValue, after_event, moment_of}
-use Rattle.dt_network.specs.Network.{Network}
+use Rattle.dt_network.specs.Network.{Network, Setup}
 use Rattle.dt_service_model.specs.declared.answers.Forgot.{Forgot}
 use Rattle.dt_service_model.specs.declared.answers.Forgot.TheVariants as forgot
 use Rattle.dt_service_model.specs.declared.answers.Made.{Made}
@@ -325,7 +324,7 @@ broken_open (Raises life) x y b = absurd b
 broken_open TakesHappening x y b = absurd b
 broken_open PullsFrame x y b = absurd b
 broken_open Closes x y b = absurd b
-broken_open (OpensAgain again routes most life) x y b = absurd b
+broken_open (OpensAgain again options most life) x y b = absurd b
 broken_open (FindsNoMemory deed before) x y b = absurd b
 
 broken_accounts : (deed : Deed) (x y : Node) → BreaksBy deed x y → x.halves.closed ≡ false → Accounts false (all_asked deed x) x.halves y.halves (told_of x.halves y.halves) []
@@ -339,7 +338,7 @@ broken_accounts (Raises life) x y b open_x = absurd b
 broken_accounts TakesHappening x y b open_x = absurd b
 broken_accounts PullsFrame x y b open_x = absurd b
 broken_accounts Closes x y b open_x = absurd b
-broken_accounts (OpensAgain again routes most life) x y b open_x = absurd b
+broken_accounts (OpensAgain again options most life) x y b open_x = absurd b
 broken_accounts (FindsNoMemory deed before) x y b open_x = absurd b
 
 -- WHATEVER IS DONE
@@ -354,7 +353,7 @@ deed_accounts setup net n (Raises life) x keeps = accounts_all _ _ _ _ _ (λ m. 
 deed_accounts setup net n TakesHappening x keeps = accounts_all _ _ _ _ _ (λ m. take_sums m x.halves)
 deed_accounts setup net n PullsFrame x keeps = accounts_all _ _ _ _ _ (λ m. sums_same m x.halves [] refl)
 deed_accounts setup net n Closes x keeps = accounts_all _ _ _ _ _ (λ m. close_sums m x.halves.closed x.halves refl)
-deed_accounts setup net n (OpensAgain again routes most life) x keeps = accounts_all _ _ _ _ _ (λ m. (let a = ap (ends_in m) (drop-nil (length (told_by x.halves))) in record { sum = omega (arith, a) }))
+deed_accounts setup net n (OpensAgain again options most life) x keeps = accounts_all _ _ _ _ _ (λ m. (let a = ap (ends_in m) (drop-nil (length (told_by x.halves))) in record { sum = omega (arith, a) }))
 deed_accounts setup net n (FindsNoMemory deed after) x keeps = broken_accounts deed x after keeps.1 (broken_open deed x after keeps.1)
 
 -- A TURN, at one node

@@ -12,12 +12,11 @@ use Rattle.dt_items.specs.Unread.{marked}
 use Rattle.dt_units.specs.declared.endpoints.Flow.{Flow}
 use Rattle.dt_world_model.proofs.Tables.{flow_is, flow_self, nat_is, nat_self}
 use Rattle.dt_world_model.specs.Host.{one_if}
-use Rattle.dt_world_model.specs.Setup.{Setup}
 use Rattle.dt_world_model.specs.Tables.{same_flow}
 use Rattle.dt_calls_model.specs.Messages.{Piece, carried_in, has_number, number_in, reversed, whole_with}
 use Rattle.dt_messages.specs.Joining.{whole_within}
 use Rattle.dt_endpoint.specs.declared.answers.Delivered.TheVariants as answer
-use Rattle.dt_network.specs.Network.{Network}
+use Rattle.dt_network.specs.Network.{Network, Setup}
 use Rattle.dt_network.specs.Octets.{all_read, items_read, read_if}
 use Rattle.dt_network.specs.Steps.{Step}
 use Rattle.dt_service_model.specs.declared.calls.OpenCall.{OpenCall}

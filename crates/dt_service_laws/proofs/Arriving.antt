@@ -7,13 +7,12 @@ use Rattle.dt_items.specs.declared.item.Item.{Item}
 use Rattle.dt_units.specs.declared.endpoints.Flow.{Flow}
 use Rattle.dt_world_model.proofs.Tables.{flow_is, nat_is}
 use Rattle.dt_world_model.specs.Host.{one_if}
-use Rattle.dt_world_model.specs.Setup.{Setup}
 use Rattle.dt_world_model.specs.Tables.{look, same_flow}
 use Rattle.dt_calls_laws.specs.Wholes.{AreSome}
 use Rattle.dt_calls_model.specs.Messages.{reversed}
 use Rattle.dt_endpoint.specs.Endpoints.{EndpointValue}
 use Rattle.dt_network.specs.Duties.{KeepsDuties}
-use Rattle.dt_network.specs.Network.{Network, new_network}
+use Rattle.dt_network.specs.Network.{Network, Setup, new_network}
 use Rattle.dt_network.specs.Octets.{AreTaken, IsReadOf, all_read}
 use Rattle.dt_network.specs.Steps.{AreSteps, Step}
 use Rattle.dt_service_model.specs.declared.calls.OpenCall.{OpenCall}

@@ -10,7 +10,6 @@ use Rattle.dt_reports.specs.declared.faults.Refusal.TheVariants as refusal
 use Rattle.dt_units.specs.declared.endpoints.Flow.{Flow}
 use Rattle.dt_units.specs.Flows.{IsFlow}
 use Rattle.dt_flow_model.specs.Keeping.{octets_below}
-use Rattle.dt_world_model.specs.Setup.{Setup}
 use Rattle.dt_world_model.specs.Station.{Event, Tick}
 use Rattle.dt_world_model.specs.Tables.{same_flow}
 use Rattle.dt_world_model.specs.WorldStep.{first_refusal}
@@ -27,7 +26,7 @@ use Rattle.dt_endpoint.specs.Calls.{ArriveDoes, SendDoes, TickDoes, Unless, arri
 use Rattle.dt_endpoint.specs.Endpoints.{EndpointValue, after_event, moment_of, script_of, with_refused}
 use Rattle.dt_network.specs.Duties.{IsInTime, KeepsCall, KeepsTime}
 use Rattle.dt_network.specs.Duties.{KeepsFrom as CallKeeps}
-use Rattle.dt_network.specs.Network.{Network}
+use Rattle.dt_network.specs.Network.{Network, Setup}
 use Rattle.dt_network.specs.Octets.{TakesIf}
 use Rattle.dt_network.specs.Steps.{CallArrive, CallSend, CallTick, Calls, DoesFrom}
 use Rattle.dt_service_model.specs.declared.answers.Forgot.{Forgot}
@@ -271,7 +270,6 @@ module _ (setup : Setup) (n : ℕ) (m : Network) (x : Node) (there : IsAt n m x.
   in_time_later link datagram waited k later t = record {
     flight = t.flight;
     left = later.left t.flight t.left;
-    on_link = t.on_link;
     octets = t.octets;
     in_time = (let a = t.in_time in let b = later.now in omega (arith, a, b));
   }

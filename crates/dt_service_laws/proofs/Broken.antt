@@ -6,7 +6,6 @@ use Rattle.dt_items.specs.Unread.{marked}
 use Rattle.dt_reports.specs.declared.faults.Refusal.{Refusal}
 use Rattle.dt_units.specs.declared.endpoints.Flow.{Flow}
 use Rattle.dt_units.specs.Flows.{IsFlow}
-use Rattle.dt_world_model.specs.Setup.{Setup}
 use Rattle.dt_world_model.specs.Station.{Event, Tick}
 use Rattle.dt_world_model.specs.Tables.{same_flow}
 use Rattle.dt_world_model.specs.WorldStep.{first_refusal}
@@ -22,7 +21,7 @@ use Rattle.dt_endpoint.specs.Acts.{acts_of, frames_in}
 use Rattle.dt_endpoint.specs.Calls.{ArriveDoes, SendDoes, TickDoes, Unless, arrive_event, send_answer, sent_of}
 use Rattle.dt_endpoint.specs.Endpoints.{Breaks, EndpointValue, after_event, moment_of, script_of, with_refused}
 use Rattle.dt_network.specs.Duties.{KeepsCall, KeepsTime}
-use Rattle.dt_network.specs.Network.{Network}
+use Rattle.dt_network.specs.Network.{Network, Setup}
 use Rattle.dt_network.specs.Octets.{Takes, TakesIf, read_by}
 use Rattle.dt_network.specs.Steps.{Call, CallArrive, CallSend, CallTick}
 use Rattle.dt_service_model.specs.declared.answers.Made.{Made}
@@ -330,5 +329,5 @@ module _ (setup : Setup) (Good : Network → Type 0) (law : IsLawful setup Good)
   broken_came TakesHappening y keeps closed = absurd closed
   broken_came PullsFrame y keeps closed = absurd closed
   broken_came Closes y keeps closed = absurd closed
-  broken_came (OpensAgain again routes most life) y keeps closed = absurd closed
+  broken_came (OpensAgain again options most life) y keeps closed = absurd closed
   broken_came (FindsNoMemory deed before) y keeps closed = absurd closed

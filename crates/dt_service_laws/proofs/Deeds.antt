@@ -5,10 +5,9 @@ use Rattle.std.proofs.Math.Seq.{drop-append_seam, drop-length}
 use Rattle.dt_items.specs.declared.item.Item.{Item}
 use Rattle.dt_units.specs.declared.endpoints.Flow.{Flow}
 use Rattle.dt_units.specs.Flows.{IsFlow}
-use Rattle.dt_world_model.specs.Setup.{Setup}
 use Rattle.dt_endpoint.specs.Endpoints.{EndpointValue}
 use Rattle.dt_network.specs.Duties.{KeepsDuties, KeepsTime}
-use Rattle.dt_network.specs.Network.{Network}
+use Rattle.dt_network.specs.Network.{Network, Setup}
 use Rattle.dt_network.specs.Octets.{AreTaken, Takes, all_read, read_by}
 use Rattle.dt_network.specs.Steps.{AreSteps, Call, Calls, PullFrame, Step, network_after, network_by}
 use Rattle.dt_service_model.specs.declared.happenings.Happening.{Happening}

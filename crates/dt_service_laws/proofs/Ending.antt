@@ -8,7 +8,6 @@ use Rattle.dt_items.specs.declared.item.Item.{Item}
 use Rattle.dt_items.specs.Unread.{last_item, octets_of, piece_told}
 use Rattle.dt_units.specs.declared.endpoints.Flow.{Flow}
 use Rattle.dt_units.specs.Flows.{IsFlow}
-use Rattle.dt_world_model.specs.Setup.{Setup}
 use Rattle.dt_world_model.specs.Station.{Read}
 use Rattle.dt_world_model.specs.Tables.{same_flow}
 use Rattle.dt_world_model.specs.WorldStep.{first_refusal}
@@ -19,7 +18,7 @@ use Rattle.dt_endpoint.specs.Acts.{acts_of, frames_in}
 use Rattle.dt_endpoint.specs.Calls.{ReadDoes, Unless, read_answer}
 use Rattle.dt_endpoint.specs.Endpoints.{after_event, moment_of, script_of}
 use Rattle.dt_network.specs.Duties.{KeepsTime}
-use Rattle.dt_network.specs.Network.{Network, clock_of}
+use Rattle.dt_network.specs.Network.{Network, Setup, clock_of}
 use Rattle.dt_network.specs.Octets.{read_if as items_if}
 use Rattle.dt_network.specs.Steps.{CallRead, Step}
 use Rattle.dt_service_model.specs.Ends.{judge}

@@ -59,5 +59,5 @@ module _ (R : Node → Node → Type 0) (May : (now : ℕ) → Event (Unit {0}) 
   halts TakesHappening x y may b = absurd b
   halts PullsFrame x y may b = absurd b
   halts Closes x y may b = absurd b
-  halts (OpensAgain again routes most life) x y may b = absurd b
+  halts (OpensAgain again options most life) x y may b = absurd b
   halts (FindsNoMemory deed before) x y may b = absurd b

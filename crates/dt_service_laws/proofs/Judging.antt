@@ -8,7 +8,6 @@ use Rattle.std.proofs.lemmas.Bool.Decides.{nat_tests}
 use Rattle.std.proofs.lemmas.List.Elements.{All-append, All-cons, All-contains_itself, All-head, All-nil, All-tail, All-weaker, Contains-append_cases, Contains-append_left, Contains-append_right}
 use Rattle.dt_units.specs.declared.endpoints.Flow.{Flow}
 use Rattle.dt_reports.specs.declared.faults.Refusal.{Refusal}
-use Rattle.dt_world_model.specs.Setup.{Setup}
 use Rattle.dt_world_model.specs.Station.{Tick}
 use Rattle.dt_world_model.specs.Tables.{look}
 use Rattle.dt_world_model.specs.WorldStep.{first_refusal}
@@ -19,7 +18,7 @@ use Rattle.dt_endpoint.specs.declared.answers.Ticked.{Ticked}
 use Rattle.dt_endpoint.specs.declared.answers.Ticked.TheVariants as ticked
 use Rattle.dt_endpoint.specs.Calls.{arrive_event, arrive_refusal, send_answer}
 use Rattle.dt_endpoint.specs.Endpoints.{EndpointValue, moment_of}
-use Rattle.dt_network.specs.Network.{Network}
+use Rattle.dt_network.specs.Network.{Network, Setup}
 use Rattle.dt_service_model.specs.declared.answers.Forgot.{Forgot}
 use Rattle.dt_service_model.specs.declared.answers.Forgot.TheVariants as forgot
 use Rattle.dt_service_model.specs.declared.answers.Made.{Made}
@@ -327,7 +326,7 @@ deed_judged setup net n (Raises life) x keeps sure = raise_judged (is_life_in_us
 deed_judged setup net n TakesHappening x keeps sure = nothing_told TakesHappening x (node_after setup n TakesHappening x) (taken_told x.halves.happenings x.halves refl) (λ open_y. taken_sure (IsCalm x.endpoint.latest) x.halves.happenings x.halves (sure (sym (taken_closed x.halves.happenings x.halves) ∙ open_y)))
 deed_judged setup net n PullsFrame x keeps sure = stays PullsFrame x (node_after setup n PullsFrame x) refl sure
 deed_judged setup net n Closes x keeps sure = close_judged x.halves.closed x refl sure
-deed_judged setup net n (OpensAgain again routes most life) x keeps sure = nothing_told (OpensAgain again routes most life) x (node_after setup n (OpensAgain again routes most life) x) (drop-nil (length (told_by x.halves))) (λ open_y. All-nil (IsCalm (node_after setup n (OpensAgain again routes most life) x).endpoint.latest))
+deed_judged setup net n (OpensAgain again options most life) x keeps sure = nothing_told (OpensAgain again options most life) x (node_after setup n (OpensAgain again options most life) x) (drop-nil (length (told_by x.halves))) (λ open_y. All-nil (IsCalm (node_after setup n (OpensAgain again options most life) x).endpoint.latest))
 deed_judged setup net n (FindsNoMemory deed after) x keeps sure =
     halted_judged (FindsNoMemory deed after) x after (broken_open deed x after keeps.1) (halts (λ (u v : Node). Tells u.halves v.halves) Any telling deed x after (λ event own. tt) keeps.1)
 

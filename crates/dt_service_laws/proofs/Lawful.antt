@@ -5,7 +5,6 @@ use Rattle.std.proofs.lemmas.Bool.{cases_Bool}
 use Rattle.std.proofs.lemmas.List.Elements.{All-contains, All-nil}
 use Rattle.dt_units.specs.Flows.{IsFlow}
 use Rattle.dt_world_model.proofs.Tables.{all_look, nat_is, nat_self}
-use Rattle.dt_world_model.specs.Setup.{Setup, new_world}
 use Rattle.dt_world_model.specs.Station.{Station}
 use Rattle.dt_world_model.specs.Tables.{look}
 use Rattle.dt_world_model.specs.World.{Placed, World, view}
@@ -14,7 +13,8 @@ use Rattle.dt_endpoint.specs.Acts.{OutFrameValue}
 use Rattle.dt_endpoint.specs.Endpoints.{EndpointValue}
 use Rattle.dt_network.specs.Beside.{GoesBeside, IsBeside, IsUnderWay}
 use Rattle.dt_network.specs.Duties.{KeepsDuties}
-use Rattle.dt_network.specs.Network.{Flight, Network, new_network, opened_at}
+use Rattle.dt_network.specs.Network.{Flight, Network, NodeSetup, Options, Setup, new_network, opened_first, opened_with}
+use Rattle.dt_network.specs.Stations.{first_world}
 use Rattle.dt_network.specs.Steps.{AreSteps, Step, network_after, network_by}
 use Rattle.dt_service_model.specs.declared.ports.Most.{Most}
 use Rattle.dt_service_laws.specs.Services.{new_services, node_with}
@@ -50,28 +50,28 @@ pub new_there : (setup : Setup) → IsReached setup (new_network setup)
 new_there setup = record { steps = []; are = tt; keep = tt; is = refl }
 
 -- what holds of each endpoint as it opens
-new_at : (P : EndpointValue → Type 0) (setup : Setup) → ((n : ℕ) → P (opened_at setup n None)) → (k : ℕ) (e : EndpointValue) → IsAt k (new_network setup) e → P e
-new_at P setup opens k e there = first setup.stations there
+new_at : (P : EndpointValue → Type 0) (setup : Setup) → ((n : ℕ) (options : Options) → P (opened_with setup n None options)) → (k : ℕ) (e : EndpointValue) → IsAt k (new_network setup) e → P e
+new_at P setup opens k e there = first setup.nodes there
   where
-    first : (stations : List (ℕ × ℕ)) → look ◌==◌ k (map (λ (s : ℕ × ℕ). let x : ℕ × EndpointValue = (s.0, opened_at setup s.0 None) in x) stations) ≡ Some e → P e
+    first : (nodes : List (ℕ × NodeSetup)) → look ◌==◌ k (map (opened_first setup) nodes) ≡ Some e → P e
     first [] h = absurd cc
-    first (s ∷ stations) h =
+    first (s ∷ nodes) h =
         elim (cases_Bool (s.0 == k)) [
-          | inl y ↦ (let one : Some (opened_at setup s.0 None) ≡ Some e = rw y at h in let same : opened_at setup s.0 None ≡ e = cc in subst P same (opens s.0))
-          | inr o ↦ (let more : look ◌==◌ k (map (λ (s : ℕ × ℕ). let x : ℕ × EndpointValue = (s.0, opened_at setup s.0 None) in x) stations) ≡ Some e = rw o at h in first stations more)
+          | inl y ↦ (let one : Some (opened_first setup s).1 ≡ Some e = rw y at h in let same : (opened_first setup s).1 ≡ e = cc in subst P same (opens s.0 s.1.options))
+          | inr o ↦ (let more : look ◌==◌ k (map (opened_first setup) nodes) ≡ Some e = rw o at h in first nodes more)
         ]
 
 -- each node that opened for the first time goes on
 new_unspent : (setup : Setup) (k : ℕ) (e : EndpointValue) → IsAt k (new_network setup) e → e.spent ≡ false
-new_unspent setup = new_at (λ (x : EndpointValue). x.spent ≡ false) setup (λ n. refl)
+new_unspent setup = new_at (λ (x : EndpointValue). x.spent ≡ false) setup (λ n options. refl)
 
 pub new_on : (setup : Setup) (most : ℕ → Most) (life : ℕ → ℕ) (k : ℕ) (e : EndpointValue) → IsAt k (new_services setup most life).network e → (e.spent ≡ false) ⊎ (((new_services setup most life).halves k).closed ≡ true)
 new_on setup most life k e there = inl (new_unspent setup k e there)
 
 pub new_reading : (setup : Setup) (most : ℕ → Most) (life : ℕ → ℕ) (k : ℕ) (e : EndpointValue) → IsAt k (new_network setup) e → IsReading (node_with k (new_services setup most life) e)
-new_reading setup most life k e there = record { unread = All-nil IsFlow; waiting = new_at (λ (x : EndpointValue). All TellsFlow x.reports) setup (λ n. All-nil TellsFlow) k e there }
+new_reading setup most life k e there = record { unread = All-nil IsFlow; waiting = new_at (λ (x : EndpointValue). All TellsFlow x.reports) setup (λ n options. All-nil TellsFlow) k e there }
 
-module _ (setup : Setup) (world : (steps : List Step) → AreSteps setup steps (new_network setup) → KeepsDuties setup steps (new_network setup) → GoesBeside setup steps (new_network setup) (new_world setup)) where
+module _ (setup : Setup) (world : (steps : List Step) → AreSteps setup steps (new_network setup) → KeepsDuties setup steps (new_network setup) → GoesBeside setup steps (new_network setup) (first_world setup)) where
   pub lawful : IsLawful setup (IsReached setup)
   lawful = record {
     on = λ m steps h are keep. record {
@@ -81,9 +81,9 @@ module _ (setup : Setup) (world : (steps : List Step) → AreSteps setup steps (
       is = by_append h.steps steps (new_network setup) ∙ ap (network_by steps) h.is;
     };
     named = λ m n e h there unspent.
-        let b = last_beside setup h.steps (new_network setup) (new_world setup) (world h.steps h.are h.keep) in
+        let b = last_beside setup h.steps (new_network setup) (first_world setup) (world h.steps h.are h.keep) in
         beside_named setup (network_by h.steps (new_network setup)) b.0 b.1 n e (subst (λ (net : Network). IsAt n net e) (sym h.is) there) unspent;
     packets = λ m g h there.
-        let b = last_beside setup h.steps (new_network setup) (new_world setup) (world h.steps h.are h.keep) in
+        let b = last_beside setup h.steps (new_network setup) (first_world setup) (world h.steps h.are h.keep) in
         beside_packet setup (network_by h.steps (new_network setup)) b.0 b.1 g (subst (λ (net : Network). Contains net.left g) (sym h.is) there);
   }

@@ -4,7 +4,6 @@ use Rattle.std.specs.Prelude.{All, Contains, filter}
 use Rattle.dt_items.specs.declared.item.Item.{Item}
 use Rattle.dt_units.specs.declared.endpoints.Flow.{Flow}
 use Rattle.dt_world_model.specs.Host.{one_if}
-use Rattle.dt_world_model.specs.Setup.{Setup}
 use Rattle.dt_world_model.specs.Tables.{total}
 use Rattle.dt_calls_model.specs.Messages.{Piece}
 use Rattle.dt_endpoint.specs.declared.answers.Delivered.TheVariants as answer
@@ -12,7 +11,7 @@ use Rattle.dt_reports.specs.Told.{Told}
 use Rattle.dt_endpoint.specs.Acts.{OutFrameValue}
 use Rattle.dt_endpoint.specs.Endpoints.{EndpointValue}
 use Rattle.dt_network.specs.Duties.{KeepsCall}
-use Rattle.dt_network.specs.Network.{Flight, Network}
+use Rattle.dt_network.specs.Network.{Flight, Network, Setup}
 use Rattle.dt_network.specs.Octets.{Takes, read_by}
 use Rattle.dt_network.specs.Steps.{Call, CallRead, Calls, Does, PullReport, Step}
 use Rattle.dt_service_model.specs.declared.calls.OpenCall.{OpenCall as Kept}

@@ -7,7 +7,6 @@ use Rattle.dt_reports.specs.declared.faults.Refusal.TheVariants as refusal
 use Rattle.dt_units.specs.declared.endpoints.Flow.{Flow}
 use Rattle.dt_world_model.proofs.Tables.{flow_is, nat_is}
 use Rattle.dt_world_model.specs.Host.{one_if}
-use Rattle.dt_world_model.specs.Setup.{Setup}
 use Rattle.dt_world_model.specs.Station.{Tick}
 use Rattle.dt_world_model.specs.Tables.{look, same_flow}
 use Rattle.dt_world_model.specs.WorldStep.{first_refusal}
@@ -18,7 +17,7 @@ use Rattle.dt_endpoint.specs.declared.answers.Ticked.{Ticked}
 use Rattle.dt_endpoint.specs.declared.answers.Ticked.TheVariants as ticked
 use Rattle.dt_endpoint.specs.Calls.{arrive_event, arrive_refusal, send_answer}
 use Rattle.dt_endpoint.specs.Endpoints.{EndpointValue, moment_of}
-use Rattle.dt_network.specs.Network.{Network}
+use Rattle.dt_network.specs.Network.{Network, Setup}
 use Rattle.dt_service_model.specs.declared.answers.Forgot.{Forgot}
 use Rattle.dt_service_model.specs.declared.answers.Forgot.TheVariants as forgot
 use Rattle.dt_service_model.specs.declared.answers.Made.{Made}
@@ -120,7 +119,7 @@ broken_numbers (Raises life) x y l = stay refl refl l.life (λ unclosed. absurd 
 broken_numbers TakesHappening x y l = stay refl refl l.life (λ unclosed. absurd (closed_not y.halves.closed l.closed unclosed))
 broken_numbers PullsFrame x y l = stay refl refl l.life (λ unclosed. absurd (closed_not y.halves.closed l.closed unclosed))
 broken_numbers Closes x y l = stay refl refl l.life (λ unclosed. absurd (closed_not y.halves.closed l.closed unclosed))
-broken_numbers (OpensAgain again routes most life) x y l = stay refl refl l.life (λ unclosed. absurd (closed_not y.halves.closed l.closed unclosed))
+broken_numbers (OpensAgain again options most life) x y l = stay refl refl l.life (λ unclosed. absurd (closed_not y.halves.closed l.closed unclosed))
 broken_numbers (FindsNoMemory deed before) x y l = broken_numbers deed x y l
 
 stays_through : (h k l : Halves) → Stays h k → Stays k l → Stays h l
@@ -189,7 +188,7 @@ deed_numbers setup n net (Raises life) x keeps = raise_numbers (is_life_in_use l
 deed_numbers setup n net TakesHappening x keeps = stays_numbers x.halves _ (taken_stays x.halves.happenings x.halves)
 deed_numbers setup n net PullsFrame x keeps = stay_on refl refl refl refl (λ c. c)
 deed_numbers setup n net Closes x keeps = stay_on refl refl refl refl (λ c. refl)
-deed_numbers setup n net (OpensAgain again routes most life) x keeps = begin refl refl
+deed_numbers setup n net (OpensAgain again options most life) x keeps = begin refl refl
 deed_numbers setup n net (FindsNoMemory deed after) x keeps = broken_numbers deed x after (broken_leaves deed x after keeps.1)
 
 pub zero_or_more : (n : ℕ) → (n ≡ 0) ⊎ (0 < n)
@@ -325,7 +324,7 @@ module _ (setup : Setup) (c : ℕ) where
   two_asked m f g apart TakesHappening x = omega arith
   two_asked m f g apart PullsFrame x = omega arith
   two_asked m f g apart Closes x = omega arith
-  two_asked m f g apart (OpensAgain again routes most life) x = omega arith
+  two_asked m f g apart (OpensAgain again options most life) x = omega arith
   two_asked m f g apart (FindsNoMemory deed after) x = two_asked m f g apart deed x
 
   two_by : (m : CallNumber) (f g : Flow) → same_flow g f ≡ false → (deed : Deed) (x : Node) → count_of m (call_by f deed x) + count_of m (call_by g deed x) ≤ count_of m (all_by deed x)
@@ -339,7 +338,7 @@ module _ (setup : Setup) (c : ℕ) where
   two_by m f g apart TakesHappening x = omega arith
   two_by m f g apart PullsFrame x = omega arith
   two_by m f g apart Closes x = omega arith
-  two_by m f g apart (OpensAgain again routes most life) x = omega arith
+  two_by m f g apart (OpensAgain again options most life) x = omega arith
   two_by m f g apart (FindsNoMemory deed after) x = two_asked m f g apart deed x
 
   two_at : (m : CallNumber) (f g : Flow) → same_flow g f ≡ false → (n : ℕ) (deed : Deed) (o : Option Node) → count_of m (at_node (at_the c (λ n. call_by f) n deed) o) + count_of m (at_node (at_the c (λ n. call_by g) n deed) o) ≤ count_of m (at_node (at_the c (λ n. all_by) n deed) o)

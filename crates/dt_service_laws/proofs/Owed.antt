@@ -1,11 +1,10 @@
 -- What turns owe, with what is proved of the flows that they read: at the end of each turn these are flows.
 use Rattle.std.specs.Prelude.{ℕ, ◌≡◌, All, List, [], ◌∷◌, Option, Some, None}
 use Rattle.dt_units.specs.Flows.{IsFlow}
-use Rattle.dt_world_model.specs.Setup.{Setup}
 use Rattle.dt_world_model.specs.Station.{Tick}
 use Rattle.dt_calls_model.specs.Messages.{message_of, reversed}
 use Rattle.dt_endpoint.specs.Calls.{arrive_event, arrive_refusal}
-use Rattle.dt_network.specs.Network.{Network}
+use Rattle.dt_network.specs.Network.{Network, Setup}
 use Rattle.dt_service_model.specs.Asked.{message_event, next_number}
 use Rattle.dt_service_model.specs.Names.{number_of}
 use Rattle.dt_service_model.specs.Turns.{Node, happens}
@@ -27,7 +26,7 @@ ReadsIn (Raises life) x = Unit {0}
 ReadsIn TakesHappening x = Unit {0}
 ReadsIn PullsFrame x = Unit {0}
 ReadsIn Closes x = Unit {0}
-ReadsIn (OpensAgain again routes most life) x = Unit {0}
+ReadsIn (OpensAgain again options most life) x = Unit {0}
 ReadsIn (FindsNoMemory deed after) x = ReadsIn deed x
 
 abbrev pub KeepsDeed : Setup → Network → (node : ℕ) → Deed → Node → Type 0

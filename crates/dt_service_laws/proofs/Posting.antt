@@ -2,7 +2,7 @@
 use Rattle.std.proofs.Common.{ℕ, ◌≤◌, ◌≡◌, ◌⊎◌, Bool, true, false, List, [], ◌∷◌, map, refl, sym, subst, inl, inr, arith}
 use Rattle.dt_items.specs.declared.item.Item.{Item}
 use Rattle.dt_calls_laws.specs.Wholes.{items_of_all}
-use Rattle.dt_world_model.specs.Setup.{Setup}
+use Rattle.dt_network.specs.Network.{Setup}
 use Rattle.dt_service_model.specs.declared.names.CallNumber.{CallNumber}
 use Rattle.dt_service_model.specs.Turns.{Node}
 use Rattle.dt_service_laws.specs.Histories.{Message, count_of, in_turn, in_turns, spelled}

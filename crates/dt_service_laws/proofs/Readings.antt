@@ -54,7 +54,7 @@ module _ (longest : Option ℕ) where
 
   by_call : (f : Flow) (n : ℕ) (call : Call) (r t : Option (List ℕ)) → IsSameOrNone r t → Goes (found_by f n call r) (read_by f call) t
   by_call f n (CallRead now flow room buf a) r t same = by_answer (same_flow flow f) a buf r t same
-  by_call f n (OpenAgain again routes) r t same = opens (n == f.to.0) r t same
+  by_call f n (OpenAgain again options) r t same = opens (n == f.to.0) r t same
   by_call f n (CallTick now a) r t same = leaves_all r t same
   by_call f n (CallSend now flow octets begin end a) r t same = leaves_all r t same
   by_call f n (CallArrive now link datagram waited a) r t same = leaves_all r t same

@@ -7,14 +7,13 @@ use Rattle.std.proofs.lemmas.List.{map-append}
 use Rattle.std.proofs.lemmas.List.Elements.{Contains-append_left}
 use Rattle.dt_reports.specs.Told.{Told}
 use Rattle.dt_world_model.proofs.Tables.{look_write, nat_is, nat_self}
-use Rattle.dt_world_model.specs.Setup.{Setup}
 use Rattle.dt_world_model.specs.Tables.{look, write}
 use Rattle.dt_calls_laws.proofs.Unread.{write_same}
 use Rattle.dt_endpoint.specs.declared.answers.Delivered.TheVariants as answer
 use Rattle.dt_endpoint.specs.Acts.{OutFrameValue}
 use Rattle.dt_endpoint.specs.Endpoints.{EndpointValue}
 use Rattle.dt_network.specs.Duties.{KeepsDuties, KeepsFrom}
-use Rattle.dt_network.specs.Network.{Flight, Network, flights}
+use Rattle.dt_network.specs.Network.{Flight, Network, Setup, flights}
 use Rattle.dt_network.specs.Steps.{AreSteps, Call, CallRead, Calls, Does, DoesFrom, PullReport, Step, network_after, network_by}
 use Rattle.dt_service_model.specs.Turns.{Node, hears, most_read}
 use Rattle.dt_service_laws.proofs.Moves.{IsLater, MayCall, Moves, calls, changes, pulls, reads, rests}

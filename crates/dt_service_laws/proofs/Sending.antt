@@ -3,10 +3,9 @@ use Rattle.std.proofs.Common.{ℕ, ◌≡◌, List, [], ◌∷◌, ◌++◌, len
 use Rattle.dt_items.specs.declared.item.Item.{Item}
 use Rattle.dt_reports.specs.Told.{Told}
 use Rattle.dt_units.specs.declared.endpoints.Flow.{Flow}
-use Rattle.dt_world_model.specs.Setup.{Setup}
 use Rattle.dt_endpoint.specs.declared.answers.Delivered.TheVariants as answer
 use Rattle.dt_endpoint.specs.Endpoints.{EndpointValue}
-use Rattle.dt_network.specs.Network.{Network}
+use Rattle.dt_network.specs.Network.{Network, Setup}
 use Rattle.dt_network.specs.Octets.{AreTaken, TakesIn}
 use Rattle.dt_network.specs.Steps.{CallRead, Calls, PullReport, Step}
 use Rattle.dt_service_model.specs.Turns.{Node, hears, most_read, with_halves}

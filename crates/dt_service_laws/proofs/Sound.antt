@@ -9,7 +9,6 @@ use Rattle.dt_reports.specs.declared.faults.Refusal.{Refusal}
 use Rattle.dt_reports.specs.declared.faults.Refusal.TheVariants as refusal
 use Rattle.dt_units.specs.declared.endpoints.Flow.{Flow}
 use Rattle.dt_world_model.proofs.Tables.{flow_is, nat_is}
-use Rattle.dt_world_model.specs.Setup.{Setup}
 use Rattle.dt_world_model.specs.Station.{Tick}
 use Rattle.dt_world_model.specs.Tables.{same_flow}
 use Rattle.dt_world_model.specs.WorldStep.{first_refusal}
@@ -21,7 +20,7 @@ use Rattle.dt_endpoint.specs.declared.answers.Ticked.{Ticked}
 use Rattle.dt_endpoint.specs.declared.answers.Ticked.TheVariants as ticked
 use Rattle.dt_endpoint.specs.Calls.{arrive_event, arrive_refusal, send_answer}
 use Rattle.dt_endpoint.specs.Endpoints.{moment_of}
-use Rattle.dt_network.specs.Network.{Network}
+use Rattle.dt_network.specs.Network.{Network, Setup}
 use Rattle.dt_service_model.specs.declared.answers.Forgot.{Forgot}
 use Rattle.dt_service_model.specs.declared.answers.Forgot.TheVariants as forgot
 use Rattle.dt_service_model.specs.declared.answers.Made.{Made}
@@ -169,7 +168,7 @@ module _ (kinds : (node port : ℕ) → PortKind) (n : ℕ) where
   sound_deed setup m x TakesHappening agrees keeps s = taken_sound x.halves.happenings x.halves s
   sound_deed setup m x PullsFrame agrees keeps s = s
   sound_deed setup m x Closes agrees keeps s = sound_keeps x.halves _ (keeps_quietly x.halves _ (close_quiet x.halves)) s
-  sound_deed setup m x (OpensAgain again routes most life) agrees keeps s = new_sound most life keeps.1
+  sound_deed setup m x (OpensAgain again options most life) agrees keeps s = new_sound most life keeps.1
   sound_deed setup m x (FindsNoMemory deed after) agrees keeps s =
       let l = broken_leaves deed x after keeps.1 in
       record { ports = λ port kind is. s.ports port kind (subst (λ (ps : List Port). kind_in port ps ≡ Some kind) l.ports is); tokens = λ t at. absurd (subst (λ (ts : List Token). Contains ts t → ⊥) (sym l.tokens) (λ there. omega (arith, there.1)) at); life = subst IsLife (sym l.life) s.life }
@@ -223,7 +222,7 @@ asked_is f (Raises life) x = inl refl
 asked_is f TakesHappening x = inl refl
 asked_is f PullsFrame x = inl refl
 asked_is f Closes x = inl refl
-asked_is f (OpensAgain again routes most life) x = inl refl
+asked_is f (OpensAgain again options most life) x = inl refl
 asked_is f (FindsNoMemory deed after) x = asked_is f deed x
 
 pub call_is : (f : Flow) (deed : Deed) (x : Node) → (call_by f deed x ≡ []) ⊎ IsCall x f
@@ -237,7 +236,7 @@ call_is f (Raises life) x = inl refl
 call_is f TakesHappening x = inl refl
 call_is f PullsFrame x = inl refl
 call_is f Closes x = inl refl
-call_is f (OpensAgain again routes most life) x = inl refl
+call_is f (OpensAgain again options most life) x = inl refl
 call_is f (FindsNoMemory deed after) x = asked_is f deed x
 
 -- no port is both
@@ -295,7 +294,7 @@ asked_reply f (Raises life) x = inl refl
 asked_reply f TakesHappening x = inl refl
 asked_reply f PullsFrame x = inl refl
 asked_reply f Closes x = inl refl
-asked_reply f (OpensAgain again routes most life) x = inl refl
+asked_reply f (OpensAgain again options most life) x = inl refl
 asked_reply f (FindsNoMemory deed after) x = asked_reply f deed x
 
 pub reply_is : (f : Flow) (deed : Deed) (x : Node) → (reply_by f deed x ≡ []) ⊎ GoesBack f x
@@ -309,7 +308,7 @@ reply_is f (Raises life) x = inl refl
 reply_is f TakesHappening x = inl refl
 reply_is f PullsFrame x = inl refl
 reply_is f Closes x = inl refl
-reply_is f (OpensAgain again routes most life) x = inl refl
+reply_is f (OpensAgain again options most life) x = inl refl
 reply_is f (FindsNoMemory deed after) x = asked_reply f deed x
 
 -- so it goes to a caller, and never on a caller's flow

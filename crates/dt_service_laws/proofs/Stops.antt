@@ -9,7 +9,6 @@ use Rattle.dt_items.specs.Unread.{last_item, octets_of}
 use Rattle.dt_reports.specs.Told.{Told}
 use Rattle.dt_units.specs.declared.endpoints.Flow.{Flow}
 use Rattle.dt_units.specs.Flows.{IsFlow}
-use Rattle.dt_world_model.specs.Setup.{Setup}
 use Rattle.dt_world_model.specs.Station.{Read}
 use Rattle.dt_calls_model.specs.Messages.{Piece}
 use Rattle.dt_endpoint.specs.declared.answers.Delivered.{Delivered as Answer}
@@ -18,7 +17,7 @@ use Rattle.dt_endpoint.specs.Acts.{acts_of, frames_in}
 use Rattle.dt_endpoint.specs.Calls.{ReadDoes, Unless, read_answer}
 use Rattle.dt_endpoint.specs.Endpoints.{Breaks, EndpointValue, after_event, script_of}
 use Rattle.dt_network.specs.Duties.{KeepsTime}
-use Rattle.dt_network.specs.Network.{Network}
+use Rattle.dt_network.specs.Network.{Network, Setup}
 use Rattle.dt_network.specs.Octets.{Takes, items_read, read_by, read_if}
 use Rattle.dt_network.specs.Steps.{Call, CallRead, Calls, Step}
 use Rattle.dt_service_model.specs.declared.call_counts.CallCounts.{CallCounts}

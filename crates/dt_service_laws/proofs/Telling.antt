@@ -10,13 +10,12 @@ use Rattle.dt_items.specs.Unread.{marked}
 use Rattle.dt_reports.specs.Told.{Told}
 use Rattle.dt_units.specs.declared.endpoints.Flow.{Flow}
 use Rattle.dt_world_model.proofs.Tables.{flow_is}
-use Rattle.dt_world_model.specs.Setup.{Setup}
 use Rattle.dt_world_model.specs.Tables.{same_flow}
 use Rattle.dt_calls_model.specs.Messages.{Piece, begun_with, carried_in, has_number, number_in, reversed}
 use Rattle.dt_messages.specs.Joining.{whole_within}
 use Rattle.dt_endpoint.specs.declared.answers.Delivered.TheVariants as answer
 use Rattle.dt_endpoint.specs.Endpoints.{EndpointValue}
-use Rattle.dt_network.specs.Network.{Network}
+use Rattle.dt_network.specs.Network.{Network, Setup}
 use Rattle.dt_network.specs.Octets.{all_read, items_read, read_if, read_in_step}
 use Rattle.dt_network.specs.Steps.{Step}
 use Rattle.dt_service_model.specs.declared.happenings.Happening.{Happening}

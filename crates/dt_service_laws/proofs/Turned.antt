@@ -9,7 +9,6 @@ use Rattle.dt_items.specs.declared.item.Item.{Item}
 use Rattle.dt_items.specs.Unread.{marked}
 use Rattle.dt_units.specs.declared.endpoints.Flow.{Flow}
 use Rattle.dt_world_model.proofs.Tables.{look_write_other, nat_is, nat_self}
-use Rattle.dt_world_model.specs.Setup.{Setup}
 use Rattle.dt_world_model.specs.Tables.{look, same_flow, write}
 use Rattle.dt_calls_laws.specs.Wholes.{items_of_all}
 use Rattle.dt_world_model.specs.Station.{Tick}
@@ -19,7 +18,7 @@ use Rattle.dt_endpoint.specs.Calls.{arrive_event, arrive_refusal, send_answer}
 use Rattle.dt_service_model.specs.Names.{number_of, token_with}
 use Rattle.dt_endpoint.specs.Endpoints.{EndpointValue, moment_of}
 use Rattle.dt_network.specs.Duties.{KeepsDuties}
-use Rattle.dt_network.specs.Network.{Network}
+use Rattle.dt_network.specs.Network.{Network, Setup}
 use Rattle.dt_network.specs.Octets.{AreTaken, all_read}
 use Rattle.dt_network.specs.Steps.{AreSteps, Calls, DoesFrom, OpenAgain, Pass, PullFrame, Step, network_by}
 use Rattle.dt_network.specs.Duties.{KeepsFrom as CallKeeps}
@@ -187,14 +186,14 @@ module _ (setup : Setup) (Good : Network → Type 0) (law : IsLawful setup Good)
       gone = none_gone x.halves (close x.halves) (close_quiet x.halves).opens;
       reaches = comes_quietly setup n x (close x.halves) m there (inr refl) (λ g b tracks. (close_quiet x.halves).begun g b tracks) (drop-length x.halves.happenings);
     }
-    came (OpensAgain again routes most life) keeps =
-        let y = node_after setup n (OpensAgain again routes most life) x in
+    came (OpensAgain again options most life) keeps =
+        let y = node_after setup n (OpensAgain again options most life) x in
         record {
           mid = y.halves;
           of = All-nil (λ (c : OpenCall). c.waits ≡ true → IsKeptFrom x.halves.calls c ⊎ (0 < count_of c.number []));
           gone = none_gone x.halves y.halves (λ t. omega arith);
-          reaches = comes_by_step setup n x m y (Calls n (OpenAgain again routes) y.endpoint) (subst (DoesFrom setup n (OpenAgain again routes) y.endpoint) (sym there) refl, tt) (subst (CallKeeps setup m n (OpenAgain again routes)) (sym there) keeps.0.0, tt) refl (inl refl) (λ g. refl)
-              (λ g. takes_more g (Calls n (OpenAgain again routes) y.endpoint) [] [] [] (λ first t. t) (takes_nothing g)) (λ g b tracks. inl refl) (drop-nil (length x.halves.happenings));
+          reaches = comes_by_step setup n x m y (Calls n (OpenAgain again options) y.endpoint) (subst (DoesFrom setup n (OpenAgain again options) y.endpoint) (sym there) refl, tt) (subst (CallKeeps setup m n (OpenAgain again options)) (sym there) keeps.0.0, tt) refl (inl refl) (λ g. refl)
+              (λ g. takes_more g (Calls n (OpenAgain again options) y.endpoint) [] [] [] (λ first t. t) (takes_nothing g)) (λ g b tracks. inl refl) (drop-nil (length x.halves.happenings));
         }
     came (FindsNoMemory deed after) keeps = broken_came setup Good law n m x there good deed after (keeps.0.0, keeps.1) keeps.0.1
 

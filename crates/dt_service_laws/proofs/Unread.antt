@@ -9,7 +9,6 @@ use Rattle.dt_reports.specs.declared.faults.Refusal.{Refusal}
 use Rattle.dt_layout.specs.declared.faults.LayoutFault.{LayoutFault}
 use Rattle.dt_layout.specs.Carried.{life_of}
 use Rattle.dt_layout.specs.Reading.{gram_fault}
-use Rattle.dt_world_model.specs.Setup.{Setup}
 use Rattle.dt_world_laws.specs.Tellings.{AllTold}
 use Rattle.dt_world_model.specs.Station.{Event, Read, Tick}
 use Rattle.dt_world_model.specs.Tables.{look, same_flow}
@@ -24,7 +23,7 @@ use Rattle.dt_endpoint.specs.Acts.{acts_of, reports_in}
 use Rattle.dt_endpoint.specs.Calls.{arrive_event, arrive_fault, arrive_refusal, has_link, send_answer}
 use Rattle.dt_endpoint.specs.Endpoints.{EndpointValue, after_event, moment_of, script_of}
 use Rattle.dt_network.specs.Duties.{IsInTime}
-use Rattle.dt_network.specs.Network.{Network, new_network}
+use Rattle.dt_network.specs.Network.{Network, Setup, new_network}
 use Rattle.dt_service_model.specs.declared.answers.Forgot.{Forgot}
 use Rattle.dt_service_model.specs.declared.answers.Forgot.TheVariants as forgot
 use Rattle.dt_service_model.specs.declared.answers.Made.{Made}
@@ -216,7 +215,7 @@ module _ (setup : Setup) (Good : Network → Type 0) (law : IsLawful setup Good)
   halted_tells n m x y good TakesHappening keeps b event own = absurd own
   halted_tells n m x y good PullsFrame keeps b event own = absurd own
   halted_tells n m x y good Closes keeps b event own = absurd own
-  halted_tells n m x y good (OpensAgain again routes most life) keeps b event own = absurd own
+  halted_tells n m x y good (OpensAgain again options most life) keeps b event own = absurd own
   halted_tells n m x y good (FindsNoMemory deed after) keeps b event own = absurd own
 
   halted_reads : (x y : Node) → IsReading x → Halts Reads Tellings reading_stopped x y → IsReading y
@@ -245,7 +244,7 @@ module _ (setup : Setup) (Good : Network → Type 0) (law : IsLawful setup Good)
   deed_reads n m x good TakesHappening keeps h = (tt, record { unread = subst (λ (fs : List Flow). All IsFlow fs) (sym (taken_unread x.halves.happenings x.halves)) h.unread; waiting = h.waiting })
   deed_reads n m x good PullsFrame keeps h = (tt, record { unread = h.unread; waiting = h.waiting })
   deed_reads n m x good Closes keeps h = (tt, record { unread = All-nil IsFlow; waiting = h.waiting })
-  deed_reads n m x good (OpensAgain again routes most life) keeps h = (tt, record { unread = All-nil IsFlow; waiting = All-nil TellsFlow })
+  deed_reads n m x good (OpensAgain again options most life) keeps h = (tt, record { unread = All-nil IsFlow; waiting = All-nil TellsFlow })
   deed_reads n m x good (FindsNoMemory deed after) keeps h = ((deed_reads n m x good deed keeps.0 h).0, halted_reads x after h (halts Reads Tellings reading_stopped deed x after (halted_tells n m x after good deed keeps.0 keeps.1) keeps.1))
 
   -- ONE TURN

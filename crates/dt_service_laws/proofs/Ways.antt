@@ -5,11 +5,10 @@ use Rattle.std.proofs.lemmas.List.Elements.{Contains-append_left}
 use Rattle.dt_items.specs.declared.item.Item.{Item}
 use Rattle.dt_reports.specs.Told.{Told}
 use Rattle.dt_units.specs.declared.endpoints.Flow.{Flow}
-use Rattle.dt_world_model.specs.Setup.{Setup}
 use Rattle.dt_endpoint.specs.Acts.{OutFrameValue}
 use Rattle.dt_endpoint.specs.Endpoints.{EndpointValue}
 use Rattle.dt_network.specs.Duties.{KeepsCall}
-use Rattle.dt_network.specs.Network.{Network}
+use Rattle.dt_network.specs.Network.{Network, Setup}
 use Rattle.dt_network.specs.Octets.{AreTaken, Takes, all_read, read_by}
 use Rattle.dt_network.specs.Steps.{Call, Calls, Does, PullReport, Step, network_by}
 use Rattle.dt_service_model.specs.declared.happenings.Happening.{Happening}

@@ -2,12 +2,12 @@
 use Rattle.std.specs.Prelude.{ℕ, ◌<◌, ◌≤◌, ◌≡◌, true, false, All, Contains, List, [], ◌∷◌, ◌++◌, replicate, take, Option, Some, None, if◌then◌else◌}
 use Rattle.dt_units.specs.declared.endpoints.Flow.{Flow}
 use Rattle.dt_reports.specs.Told.{Told}
-use Rattle.dt_world_model.specs.Setup.{Setup}
 use Rattle.dt_world_model.specs.Station.{Event, Read, Tick}
 use Rattle.dt_world_model.specs.Tables.{same_flow}
 use Rattle.dt_calls_model.specs.Messages.{Piece, message_of, reversed}
 use Rattle.dt_endpoint.specs.Calls.{arrive_event}
 use Rattle.dt_endpoint.specs.Endpoints.{after_event, moment_of}
+use Rattle.dt_network.specs.Network.{Setup}
 use Rattle.dt_service_model.specs.declared.calls.OpenCall.{OpenCall}
 use Rattle.dt_service_model.specs.declared.calls.Cause.TheVariants as cause
 use Rattle.dt_service_model.specs.declared.happenings.Happening.{Happening}
@@ -41,7 +41,7 @@ moment_told (Raises life) = 0
 moment_told TakesHappening = 0
 moment_told PullsFrame = 0
 moment_told Closes = 0
-moment_told (OpensAgain again routes most life) = 0
+moment_told (OpensAgain again options most life) = 0
 moment_told (FindsNoMemory deed after) = moment_told deed
 
 -- THE EVENT of its endpoint that is done. The message of a call is its number and then its octets. A turn that found no memory has none of its own here: it judges no call
@@ -56,7 +56,7 @@ IsEventOf (Raises life) event = ⊥
 IsEventOf TakesHappening event = ⊥
 IsEventOf PullsFrame event = ⊥
 IsEventOf Closes event = ⊥
-IsEventOf (OpensAgain again routes most life) event = ⊥
+IsEventOf (OpensAgain again options most life) event = ⊥
 IsEventOf (FindsNoMemory deed after) event = ⊥
 
 -- an event of a turn: that one, or a read of what is unread

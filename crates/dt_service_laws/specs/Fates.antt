@@ -1,7 +1,7 @@
 -- How the calls of a node end, over all its lives: what turns tell of it, and which calls nobody is told of.
 use Rattle.std.specs.Prelude.{ℕ, drop, List, [], length, if◌then◌else◌}
-use Rattle.dt_world_model.specs.Setup.{Setup}
 use Rattle.dt_world_model.specs.WorldStep.{first_refusal}
+use Rattle.dt_network.specs.Network.{Setup}
 use Rattle.dt_service_model.specs.declared.calls.OpenCall.{OpenCall}
 use Rattle.dt_service_model.specs.declared.happenings.Happening.{Happening}
 use Rattle.dt_service_model.specs.Asked.{call, call_refusals, next_number}
@@ -23,7 +23,7 @@ all_asked (Raises life) x = []
 all_asked TakesHappening x = []
 all_asked PullsFrame x = []
 all_asked Closes x = []
-all_asked (OpensAgain again routes most life) x = []
+all_asked (OpensAgain again options most life) x = []
 all_asked (FindsNoMemory deed after) x = all_asked deed x
 
 abbrev pub all_by : Deed → Node → List Message
@@ -37,7 +37,7 @@ all_by (Raises life) x = []
 all_by TakesHappening x = []
 all_by PullsFrame x = []
 all_by Closes x = []
-all_by (OpensAgain again routes most life) x = []
+all_by (OpensAgain again options most life) x = []
 all_by (FindsNoMemory deed after) x = all_asked deed x
 
 abbrev pub calls_at : ℕ → Setup → List Turn → Services → List Message
@@ -56,7 +56,7 @@ still_in h = if h.closed then [] else h.calls
 
 -- THE CALLS THAT NOBODY IS TOLD OF: their program died, and its node opened again
 abbrev pub lost_by : Deed → Node → List OpenCall
-lost_by (OpensAgain again routes most life) x = still_in x.halves
+lost_by (OpensAgain again options most life) x = still_in x.halves
 lost_by (GivesKind port kind) x = []
 lost_by (MakesCall now f payload patience) x = []
 lost_by (GivesReply now token payload) x = []

@@ -2,10 +2,10 @@
 use Rattle.std.specs.Prelude.{ℕ, ◌==◌, List, [], ◌∷◌, ◌++◌, Option, Some, None, if◌then◌else◌}
 use Rattle.dt_units.specs.declared.endpoints.Flow.{Flow}
 use Rattle.dt_world_model.specs.Host.{one_if}
-use Rattle.dt_world_model.specs.Setup.{Setup}
 use Rattle.dt_world_model.specs.Tables.{same_flow, total}
 use Rattle.dt_world_model.specs.WorldStep.{first_refusal}
 use Rattle.dt_calls_model.specs.Messages.{message_of}
+use Rattle.dt_network.specs.Network.{Setup}
 use Rattle.dt_service_model.specs.declared.answers.Made.{Made}
 use Rattle.dt_service_model.specs.declared.answers.Made.TheVariants as made
 use Rattle.dt_service_model.specs.declared.answers.Replied.{Replied}
@@ -51,7 +51,7 @@ call_asked f (Raises life) x = []
 call_asked f TakesHappening x = []
 call_asked f PullsFrame x = []
 call_asked f Closes x = []
-call_asked f (OpensAgain again routes most life) x = []
+call_asked f (OpensAgain again options most life) x = []
 call_asked f (FindsNoMemory deed after) x = call_asked f deed x
 
 abbrev pub call_by : Flow → Deed → Node → List Message
@@ -65,7 +65,7 @@ call_by f (Raises life) x = []
 call_by f TakesHappening x = []
 call_by f PullsFrame x = []
 call_by f Closes x = []
-call_by f (OpensAgain again routes most life) x = []
+call_by f (OpensAgain again options most life) x = []
 call_by f (FindsNoMemory deed after) x = call_asked f deed x
 
 -- THE REPLIES to the requests of a flow that its service gave and the node took. One that found no memory may have been taken
@@ -87,7 +87,7 @@ reply_asked f (Raises life) x = []
 reply_asked f TakesHappening x = []
 reply_asked f PullsFrame x = []
 reply_asked f Closes x = []
-reply_asked f (OpensAgain again routes most life) x = []
+reply_asked f (OpensAgain again options most life) x = []
 reply_asked f (FindsNoMemory deed after) x = reply_asked f deed x
 
 abbrev pub reply_by : Flow → Deed → Node → List Message
@@ -101,7 +101,7 @@ reply_by f (Raises life) x = []
 reply_by f TakesHappening x = []
 reply_by f PullsFrame x = []
 reply_by f Closes x = []
-reply_by f (OpensAgain again routes most life) x = []
+reply_by f (OpensAgain again options most life) x = []
 reply_by f (FindsNoMemory deed after) x = reply_asked f deed x
 
 -- THE REQUESTS of a flow that are handed out, and the answers
@@ -156,7 +156,7 @@ answers_at client setup turns s = in_turns (at_the client (told_by answer_in set
 -- THE LIVES of a node after its first one, each as it begins
 abbrev pub life_by : Deed → Node → List ℕ
 life_by (Raises life) x = if is_life_in_use life x.halves then [] else life ∷ []
-life_by (OpensAgain again routes most life) x = life ∷ []
+life_by (OpensAgain again options most life) x = life ∷ []
 life_by (GivesKind port kind) x = []
 life_by (MakesCall now g payload patience) x = []
 life_by (GivesReply now token payload) x = []

@@ -1,9 +1,9 @@
 -- What becomes of a call over a network of services, in one statement.
 use Rattle.std.specs.Prelude.{ℕ, ◌+◌, ◌<◌, ◌≤◌, ◌≡◌, ◌==◌, false, All, Contains, List, Some}
 use Rattle.dt_units.specs.declared.endpoints.Flow.{Flow}
-use Rattle.dt_world_model.specs.Setup.{Setup}
 use Rattle.dt_world_model.specs.Tables.{look}
 use Rattle.dt_endpoint.specs.Endpoints.{EndpointValue}
+use Rattle.dt_network.specs.Network.{Setup}
 use Rattle.dt_service_model.specs.declared.happenings.Happening.TheVariants.{Answered}
 use Rattle.dt_service_model.specs.declared.names.CallNumber.{CallNumber}
 use Rattle.dt_service_model.specs.Accounts.{ends_in, waits_in}

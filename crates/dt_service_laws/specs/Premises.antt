@@ -2,10 +2,9 @@
 use Rattle.std.specs.Prelude.{ℕ, ◌^◌, ◌<◌, ◌≡◌, ◌≢◌, List, [], ◌∷◌, Option, Some, None}
 use Rattle.dt_units.specs.declared.endpoints.Flow.{Flow}
 use Rattle.dt_units.specs.Flows.{IsFlow}
-use Rattle.dt_world_model.specs.Setup.{Setup}
 use Rattle.dt_endpoint.specs.declared.answers.Received.TheVariants as arrived
 use Rattle.dt_network.specs.Duties.{KeepsCall, KeepsTime}
-use Rattle.dt_network.specs.Network.{Network}
+use Rattle.dt_network.specs.Network.{Network, Setup}
 use Rattle.dt_network.specs.Steps.{CallArrive, OpenAgain}
 use Rattle.dt_service_model.specs.declared.ports.PortKind.{PortKind}
 use Rattle.dt_service_model.specs.declared.ports.PortKind.TheVariants.{Caller, Service}
@@ -28,7 +27,7 @@ BreaksBy (Raises life) x after = ⊥
 BreaksBy TakesHappening x after = ⊥
 BreaksBy PullsFrame x after = ⊥
 BreaksBy Closes x after = ⊥
-BreaksBy (OpensAgain again routes most life) x after = ⊥
+BreaksBy (OpensAgain again options most life) x after = ⊥
 BreaksBy (FindsNoMemory deed before) x after = ⊥
 
 -- THE DUTIES of the endpoint's callers, at what is done at a node. Each life has 32 bits, and flows are flows
@@ -43,7 +42,7 @@ KeepsDeed setup net n (Raises life) x = IsLife life
 KeepsDeed setup net n TakesHappening x = Unit {0}
 KeepsDeed setup net n PullsFrame x = Unit {0}
 KeepsDeed setup net n Closes x = Unit {0}
-KeepsDeed setup net n (OpensAgain again routes most life) x = KeepsCall setup net n (OpenAgain again routes) x.endpoint × IsLife life
+KeepsDeed setup net n (OpensAgain again options most life) x = KeepsCall setup net n (OpenAgain again options) x.endpoint × IsLife life
 KeepsDeed setup net n (FindsNoMemory deed after) x = KeepsDeed setup net n deed x × BreaksBy deed x after
 
 abbrev pub KeepsFrom : Setup → Network → (node : ℕ) → Deed → Option Node → Type 0
@@ -70,7 +69,7 @@ KeepsKind kinds n (Raises life) = Unit {0}
 KeepsKind kinds n TakesHappening = Unit {0}
 KeepsKind kinds n PullsFrame = Unit {0}
 KeepsKind kinds n Closes = Unit {0}
-KeepsKind kinds n (OpensAgain again routes most life) = Unit {0}
+KeepsKind kinds n (OpensAgain again options most life) = Unit {0}
 KeepsKind kinds n (FindsNoMemory deed after) = Unit {0}
 
 abbrev pub KeepsKinds : (kinds : (node port : ℕ) → PortKind) → List Turn → Type 0

@@ -29,7 +29,7 @@ piece_if false piece = None
 
 abbrev pub found_by : Flow → (node : ℕ) → Call → (begun : Option (List ℕ)) → Option Piece × Option (List ℕ)
 found_by f n (CallRead now flow room buf answer) begun = (piece_if (same_flow flow f) (piece_answered answer buf), begun)
-found_by f n (OpenAgain again routes) begun = (None, if n == f.to.0 then None else begun)
+found_by f n (OpenAgain again options) begun = (None, if n == f.to.0 then None else begun)
 found_by f n (CallTick now answer) begun = (None, begun)
 found_by f n (CallSend now flow octets begin end answer) begun = (None, begun)
 found_by f n (CallArrive now link datagram waited answer) begun = (None, begun)

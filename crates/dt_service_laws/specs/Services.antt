@@ -1,11 +1,9 @@
 -- A network of services: nodes that make calls and reply to requests, each over its endpoint of a network.
 use Rattle.std.specs.Prelude.{ℕ, ◌==◌, drop, List, [], ◌∷◌, cond, length, option_map, Option, Some, None}
 use Rattle.dt_units.specs.declared.endpoints.Flow.{Flow}
-use Rattle.dt_world_model.specs.declared.links.Route.{Route}
-use Rattle.dt_world_model.specs.Setup.{Setup}
 use Rattle.dt_world_model.specs.Tables.{look}
 use Rattle.dt_endpoint.specs.Endpoints.{EndpointValue}
-use Rattle.dt_network.specs.Network.{Network, new_network, opened_with}
+use Rattle.dt_network.specs.Network.{Network, Options, Setup, new_network, opened_with}
 use Rattle.dt_network.specs.Steps.{Calls, Pass, PullFrame, network_after}
 use Rattle.dt_service_model.specs.declared.happenings.Happening.{Happening}
 use Rattle.dt_service_model.specs.declared.names.Token.{Token}
@@ -16,7 +14,7 @@ use Rattle.dt_service_model.specs.Ends.{close, next}
 use Rattle.dt_service_model.specs.Halves.{Halves, new_halves}
 use Rattle.dt_service_model.specs.Turns.{Node, with_halves}
 
--- WHAT A PROGRAM ASKS of its node, and that it dies and its node opens again: with the moment of that, its routes, its limits and its life. What is asked may find no memory: then it is told what its node is after that
+-- WHAT A PROGRAM ASKS of its node, and that it dies and its node opens again: with the moment of that, its links and routes, its limits and its life. What is asked may find no memory: then it is told what its node is after that
 pub data Deed : Type 0 where
   GivesKind : (port : ℕ) → (kind : PortKind) → Deed
   MakesCall : (now : ℕ) → (flow : Flow) → (payload : List ℕ) → (patience : ℕ) → Deed
@@ -28,7 +26,7 @@ pub data Deed : Type 0 where
   TakesHappening : Deed
   PullsFrame : Deed
   Closes : Deed
-  OpensAgain : (again : Option ℕ) → (routes : List Route) → (most : Most) → (life : ℕ) → Deed
+  OpensAgain : (again : Option ℕ) → (options : Options) → (most : Most) → (life : ℕ) → Deed
   FindsNoMemory : (deed : Deed) → (after : Node) → Deed
 
 -- what the definitions of a node make of it
@@ -43,7 +41,7 @@ node_after setup n (Raises life) x = with_halves (raised life) x
 node_after setup n TakesHappening x = with_halves (λ h. (next h).1) x
 node_after setup n PullsFrame x = record x { endpoint = record (x.endpoint) { frames = drop 1 x.endpoint.frames } }
 node_after setup n Closes x = with_halves close x
-node_after setup n (OpensAgain again routes most life) x = record { endpoint = opened_with setup n again routes; halves = new_halves most life }
+node_after setup n (OpensAgain again options most life) x = record { endpoint = opened_with setup n again options; halves = new_halves most life }
 node_after setup n (FindsNoMemory deed after) x = after
 
 -- THE NETWORK, and what each node has beside its endpoint

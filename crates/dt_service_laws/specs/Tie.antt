@@ -2,8 +2,8 @@
 use Rattle.std.specs.Prelude.{◌≡◌, ◌⊎◌, ◌++◌, ℕ, Bool, true, false, List, [], ◌∷◌, map}
 use Rattle.dt_items.specs.declared.item.Item.{Item}
 use Rattle.dt_units.specs.declared.endpoints.Flow.{Flow}
-use Rattle.dt_world_model.specs.Setup.{Setup}
 use Rattle.dt_calls_laws.specs.Wholes.{items_of_all}
+use Rattle.dt_network.specs.Network.{Setup}
 use Rattle.dt_network.specs.Duties.{KeepsDuties}
 use Rattle.dt_network.specs.Octets.{AreTaken}
 use Rattle.dt_network.specs.Steps.{AreSteps, Step}
@@ -24,7 +24,7 @@ finds_memory (Raises life) = true
 finds_memory TakesHappening = true
 finds_memory PullsFrame = true
 finds_memory Closes = true
-finds_memory (OpensAgain again routes most life) = true
+finds_memory (OpensAgain again options most life) = true
 
 abbrev pub has_memory : Turn → Bool
 has_memory (Passes by) = true

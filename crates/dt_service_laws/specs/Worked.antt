@@ -1,10 +1,10 @@
--- Worked networks of services: a call that is answered, one whose client starts again while its service is slow, one whose service finds no memory, and one whose client finds none.
+-- Worked networks of services: a call that is answered, one whose client starts again with another link while its service is slow, one whose service finds no memory, and one whose client finds none.
 use Rattle.std.specs.Prelude.{ℕ, zero, suc, ◌==◌, List, [], ◌∷◌, ◌++◌, unwrap_or, option_map, Some, None}
-use Rattle.dt_world_model.specs.Setup.{Setup, routes_of}
 use Rattle.dt_world_model.specs.Tables.{look}
 use Rattle.dt_world_model.specs.Worked.{main_flow, standard}
 use Rattle.dt_endpoint.specs.Calls.{arrive_event}
-use Rattle.dt_network.specs.Network.{opened_at}
+use Rattle.dt_network.specs.Network.{Options, Setup, opened_with}
+use Rattle.dt_network.specs.Worked.{by, by_link}
 use Rattle.dt_service_model.specs.declared.ports.PortKind.{PortKind}
 use Rattle.dt_service_model.specs.declared.ports.PortKind.TheVariants.{Caller, Service}
 use Rattle.dt_service_model.specs.Asked.{message_event}
@@ -16,15 +16,19 @@ use Rattle.dt_service_model.specs.Worked.{frame_at, roomy}
 use Rattle.dt_service_laws.specs.Histories.{Message}
 use Rattle.dt_service_laws.specs.Services.{Arrives, Does, FindsNoMemory, GivesKind, GivesReply, MakesCall, OpensAgain, Passes, Services, Ticks, Turn, new_services, node_with, services_by}
 
--- node 1 calls from port 10, and node 2 serves at port 20
+-- node 1 calls from port 10 over its link 1, and node 2 serves at port 20 over its link 7
+abbrev pub client_options : Options
+client_options = by_link 1 40 (by 2 1 ∷ [])
+
+abbrev pub service_options : Options
+service_options = by_link 7 40 (by 1 7 ∷ [])
+
 abbrev pub two_nodes : Setup
-two_nodes =
-    record {
-      params = standard;
-      stations = (1, 0) ∷ (2, 0) ∷ [];
-      links = (record { link = 1; from = 1; to = 2; charge = 40; pace = 0 }) ∷ (record { link = 2; from = 2; to = 1; charge = 40; pace = 0 }) ∷ [];
-      routes = (1, record { to = 2; link = 1 }) ∷ (2, record { to = 1; link = 2 }) ∷ [];
-    }
+two_nodes = record { params = standard; nodes = (1, record { ahead = 0; options = client_options }) ∷ (2, record { ahead = 0; options = service_options }) ∷ [] }
+
+-- how the client opens again: with another link
+abbrev pub other_options : Options
+other_options = by_link 3 40 (by 2 3 ∷ [])
 
 abbrev pub first_life : ℕ → ℕ
 first_life n = 5
@@ -48,19 +52,19 @@ abbrev pub called : List Turn
 called = Does 1 (GivesKind 10 Caller) ∷ Does 2 (GivesKind 20 Service) ∷ Does 1 (MakesCall 0 main_flow (97 ∷ []) 8000) ∷ Passes 40 ∷ []
 
 abbrev pub handed_out : List Turn
-handed_out = called ++ Does 2 (Arrives 40 1 (frame_of 1 0 (services_by two_nodes called two_services)) 0) ∷ []
+handed_out = called ++ Does 2 (Arrives 40 7 (frame_of 1 0 (services_by two_nodes called two_services)) 0) ∷ []
 
 abbrev pub replied : List Turn
 replied = handed_out ++ Does 2 (GivesReply 40 (token_with main_flow (number_with 5 0)) (65 ∷ [])) ∷ Passes 40 ∷ []
 
 abbrev pub answered : List Turn
-answered = replied ++ Does 1 (Arrives 80 2 (frame_of 2 1 (services_by two_nodes replied two_services)) 0) ∷ []
+answered = replied ++ Does 1 (Arrives 80 1 (frame_of 2 1 (services_by two_nodes replied two_services)) 0) ∷ []
 
 -- THE CLIENT STARTS AGAIN with another life, and calls anew. Its first call is replied to late, and the second too
 abbrev pub started_again : List Turn
 started_again =
     handed_out
-    ++ Does 1 (OpensAgain (Some 40) (routes_of 1 two_nodes.routes) roomy 6)
+    ++ Does 1 (OpensAgain (Some 40) other_options roomy 6)
     ∷ Does 1 (GivesKind 10 Caller)
     ∷ Passes 6200
     ∷ Does 1 (MakesCall 6240 main_flow (98 ∷ []) 8000)
@@ -69,7 +73,7 @@ started_again =
 abbrev pub replied_late : List Turn
 replied_late =
     started_again
-    ++ Does 2 (Arrives 6240 1 (frame_of 1 0 (services_by two_nodes started_again two_services)) 0)
+    ++ Does 2 (Arrives 6240 7 (frame_of 1 0 (services_by two_nodes started_again two_services)) 0)
     ∷ Does 2 (GivesReply 6240 (token_with main_flow (number_with 5 0)) (65 ∷ []))
     ∷ Does 2 (GivesReply 6240 (token_with main_flow (number_with 6 0)) (66 ∷ []))
     ∷ []
@@ -77,24 +81,24 @@ replied_late =
 abbrev pub restarted : List Turn
 restarted =
     replied_late
-    ++ Does 1 (Arrives 6240 2 (frame_of 2 2 (services_by two_nodes replied_late two_services)) 0)
-    ∷ Does 1 (Arrives 6240 2 (frame_of 2 3 (services_by two_nodes replied_late two_services)) 0)
+    ++ Does 1 (Arrives 6240 3 (frame_of 2 2 (services_by two_nodes replied_late two_services)) 0)
+    ∷ Does 1 (Arrives 6240 3 (frame_of 2 3 (services_by two_nodes replied_late two_services)) 0)
     ∷ []
 
 -- A SERVICE FINDS NO MEMORY in the turn in which a call comes: it hands the call out, and stops where its own calls were to be judged. Then it opens again
 abbrev pub node_in : (node : ℕ) → Services → Node
-node_in n s = node_with n s (unwrap_or (look ◌==◌ n s.network.endpoints) (opened_at two_nodes n None))
+node_in n s = node_with n s (unwrap_or (look ◌==◌ n s.network.endpoints) (opened_with two_nodes n None service_options))
 
 abbrev pub stopped_at_judging : Node → Node
 stopped_at_judging x = let read = reads 40 x in with_halves (sweep read.endpoint.state.host) read
 
 abbrev pub comes_to_service : List ℕ → Node → Node
-comes_to_service datagram x = happens 40 (arrive_event 1 datagram 0) x
+comes_to_service datagram x = happens 40 (arrive_event 7 datagram 0) x
 
 abbrev pub out_of_memory : List Turn
 out_of_memory =
     called
-    ++ Does 2 (FindsNoMemory (Arrives 40 1 (frame_of 1 0 (services_by two_nodes called two_services)) 0) (with_halves close (stopped_at_judging (comes_to_service (frame_of 1 0 (services_by two_nodes called two_services)) (node_in 2 (services_by two_nodes called two_services))))))
+    ++ Does 2 (FindsNoMemory (Arrives 40 7 (frame_of 1 0 (services_by two_nodes called two_services)) 0) (with_halves close (stopped_at_judging (comes_to_service (frame_of 1 0 (services_by two_nodes called two_services)) (node_in 2 (services_by two_nodes called two_services))))))
     ∷ Does 2 (Ticks 40)
     ∷ []
 

@@ -2,7 +2,7 @@
 ghost use Rattle.std.specs.Prelude.{ℕ, ◌≤◌, List, ◌∷◌};
 ghost use Rattle.dt_units.specs.declared.endpoints.Flow.{Flow};
 ghost use Rattle.dt_units.specs.Limits.{IsWithinLimits};
-ghost use Rattle.dt_world_model.specs.Setup.{Setup};
+ghost use Rattle.dt_network.specs.Network.{Setup};
 ghost use Rattle.dt_service_model.specs.declared.names.CallNumber.{CallNumber};
 ghost use Rattle.dt_service_model.specs.declared.ports.PortKind.{PortKind};
 ghost use Rattle.dt_service_model.specs.declared.ports.Most.{Most};

@@ -21,7 +21,7 @@ returns-clause-duties c = (
         tt,
         (
           (
-            (record { clock = refl; most = omega arith }, λ clear. record { flight = get_or (services_by two_nodes called two_services).network.left 0 no_flight; left = (0, omega arith, refl); on_link = refl; octets = refl; in_time = omega arith }),
+            (record { clock = refl; most = omega arith }, λ clear. record { flight = get_or (services_by two_nodes called two_services).network.left 0 no_flight; left = (0, omega arith, refl); octets = refl; in_time = omega arith }),
             record {
               stopped = stopped_at_judging (comes_to_service (frame_of 1 0 (services_by two_nodes called two_services)) (node_in 2 (services_by two_nodes called two_services)));
               stops = record { clear = refl; unrefused = refl; turn = in_end (at_judging refl) };
