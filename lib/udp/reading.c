@@ -102,11 +102,15 @@ bool dtu_pass_in(dt_udp *u, const struct arrival *it) {
 static void receive(dt_udp *u, struct arrival *it) {
     u->counts.datagrams_in++;
     if (dtu_is_control(u, it)) return;
+    it->maker = it->len < HEADER ? 0 : (uint32_t)dtu_get_number(it->octets + MADE_BY, 4);
+    if (u->core.driven) {
+        dtu_driven_receive(u, it);
+        return;
+    }
     if (it->len < HEADER) {
         u->counts.unknown++;
         return;
     }
-    it->maker = (uint32_t)dtu_get_number(it->octets + MADE_BY, 4);
     struct peer *peer = dtu_peers_find(&u->peers, it->maker);
     if (peer == NULL || !dtu_is_from(peer, it->from)) {
         dtu_stranger(u, it);
