@@ -7,7 +7,7 @@
 - answers: requests of 100 octets, answered by 100 octets, for S seconds (2), with 1, 32, 1,000 or 4,000 under way: how many
   a second, and the microseconds of processor that one takes at both ends;
 - 64 KiB: messages of 65,524 octets, one after another: how many a second;
-- calls from Python by deltat.driver, one after another and 32 at once in asyncio, to a service in C.
+- calls from Python by deltat.Calls, one after another, and by AsyncCalls 32 and 1,000 at once, to a service in C.
 
 `same` is UDP with the very datagrams that two nodes exchange, acknowledgements too. The best run counts, since others may
 load the machine; the load is printed. A peer that can't be built here is left out. Ends with 2 where the library isn't there."""
@@ -56,44 +56,51 @@ PEERS = {
     },
     "messages, 32 under way": Peer("driver", {"MANY": "32"}, "messages"),
 }
+PYTHONS = {"Python": 1, "asyncio": 32, "asyncio, 1000 under way": 1000}
 PYTHON = """
 import asyncio, sys, time
 import deltat
-from deltat import PortKind, Start, driver
 
 params = deltat.Params(mpl=82, r=800, a=5, rto=40, probe=80, seg=1400, cap=65536, rcap=65536, window=65536)
 port, seconds, many = int(sys.argv[1]), float(sys.argv[2]), int(sys.argv[3])
+number = deltat.fresh_number()
+node = deltat.Service(number, 1, params, [deltat.Link(1, 41)], {1: 1}, start=deltat.Start.FIRST)
+# (a flow has room for some 580 requests under way)
+flows, where = [deltat.Flow(number, 10 + it, 1, 20) for it in range(4)], (node, ("127.0.0.1", 0), {1: ("127.0.0.1", port)})
+for flow in flows:
+    node.set_port(flow.source_port, deltat.PortKind.CALLER)
 
 
-def plain(udp, flow):
-    calls, count, begun = driver.Calls(udp), 0, time.monotonic()
+def plain(udp):
+    calls, count, begun = deltat.Calls(udp), 0, time.monotonic()
     while time.monotonic() - begun < seconds:
-        calls.call(flow, bytes(104))
+        calls.call(flows[0], bytes(104))
         count += 1
     return count / (time.monotonic() - begun)
 
 
-async def at_once(udp, flow):
+async def at_once():
     count, begun = 0, time.monotonic()
 
-    async def one(calls):
+    async def one(calls, flow):
         nonlocal count
         while time.monotonic() - begun < seconds:
             await calls.call(flow, bytes(104))
             count += 1
 
-    async with driver.AsyncCalls(udp) as calls:
-        await asyncio.gather(*(one(calls) for _ in range(many)))
+    async with deltat.AsyncUdp(*where) as udp:
+        calls = deltat.AsyncCalls(udp)
+        await asyncio.gather(*(one(calls, flows[it % 4]) for it in range(many)))
     return count / (time.monotonic() - begun)
 
 
-with driver.Udp(deltat.fresh_number(), params, 41, "127.0.0.1", start=Start.FIRST, service=True) as udp:
-    udp.set_peer(1, "127.0.0.1", port)
-    udp.open_port(10, PortKind.CALLER)
-    flow = deltat.Flow(udp.node, 10, 1, 20)
-    begun = time.process_time()
-    rate = plain(udp, flow) if many == 1 else asyncio.run(at_once(udp, flow))
-    print(rate, 1e6 * (time.process_time() - begun) / (rate * seconds))
+begun = time.process_time()
+if many == 1:
+    with deltat.Udp(*where) as udp:
+        rate = plain(udp)
+else:
+    rate = asyncio.run(at_once())
+print(rate, 1e6 * (time.process_time() - begun) / (rate * seconds))
 """
 
 
@@ -174,7 +181,7 @@ def main() -> int:
     reads = argparse.ArgumentParser(description=__doc__, formatter_class=argparse.RawDescriptionHelpFormatter)
     reads.add_argument("--runs", type=int, default=5)
     reads.add_argument("--seconds", type=float, default=2)
-    reads.add_argument("--only", nargs="*", metavar="NAME", help=", ".join((*PEERS, "Python", "asyncio")))
+    reads.add_argument("--only", nargs="*", metavar="NAME", help=", ".join((*PEERS, *PYTHONS)))
     given = reads.parse_args()
     if not (TOP / "lib" / "libdeltat-udp.a").exists():
         print("there is no lib/libdeltat-udp.a: make -C lib", file=sys.stderr)
@@ -185,7 +192,7 @@ def main() -> int:
         peers = {
             name: it for name, it in PEERS.items() if it.program in programs and (not given.only or name in given.only)
         }
-        python = {name: many for name, many in (("Python", 1), ("asyncio", 32)) if not given.only or name in given.only}
+        python = {name: many for name, many in PYTHONS.items() if not given.only or name in given.only}
         answers: dict[str, list[tuple[float, float]]] = {name: [] for name in (*peers, *python)}
         messages: dict[str, list[tuple[float, float]]] = {name: [] for name, it in peers.items() if it.messages}
         print("load", pathlib.Path("/proc/loadavg").read_text().strip(), flush=True)

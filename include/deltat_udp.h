@@ -2,7 +2,7 @@
  *
  * The library of deltat.h has no socket, no clock and no timer. This driver has them: it reads the
  * socket, passes datagrams in, sends the datagrams that the node makes, and keeps the time. It
- * never calls back and starts no thread. A program asks for the next event:
+ * calls nothing of the program's back (but dt_udp_drive), and starts no thread. A program asks for the next event:
  *
  *     struct dt_udp_error error;
  *     dt_udp *udp = dt_udp_open(&options, &error);
@@ -288,6 +288,103 @@ const struct dt_udp_counts *dt_udp_get_counts(dt_udp *udp);
  * what takes `now`, and never take datagrams, reports, messages or events by it. */
 dt_node *dt_udp_node(dt_udp *udp);
 dt_service *dt_udp_service(dt_udp *udp);
+
+/* --- nodes that the program opened itself
+ *
+ * A program that opened a node by dt_node_open or dt_service_open, with all of its links, may have it driven: the
+ * driver has the socket, the clock and the timer, and the handle stays the program's. It may call the handle in between,
+ * with readings of CLOCK_BOOTTIME in ms, and takes messages and reports from it. */
+
+/* Until when the node may have inputs: a state folder has to know before each. The driver reads and writes it in its
+ * calls. */
+struct dt_udp_keeper {
+    uint64_t from;  /* an input before this reading needn't be kept: the node is silent */
+    uint64_t until; /* an input up to this reading needs no `extend` */
+    uint64_t noted; /* the greatest reading of an input from `from` on: the driver writes it */
+    bool (*extend)(void *user, uint64_t at); /* makes `until` at least `at`. False: the input isn't done, and the
+                                                driver fails with DT_NOT_OPEN */
+    void *user;
+};
+
+/* A datagram that arrived. */
+struct dt_udp_datagram {
+    const uint8_t *octets;
+    size_t len;
+    uint64_t now;
+    uint32_t waited_ms;
+    uint16_t link;
+};
+
+/* Functions that are called in the place of those of the handle, each with its arguments: for a node that keeps a
+ * record of its inputs. Slower: a datagram a system call. */
+struct dt_udp_hooks {
+    dt_status (*receive)(void *user, const struct dt_udp_datagram *datagram);
+    dt_status (*tick)(void *user, uint64_t now);
+    uint64_t (*wake)(void *user);
+    dt_status (*next_datagram)(void *user, void *room, struct dt_datagram *out); /* at most DT_MAX_DATAGRAM octets */
+    void (*not_sent)(void *user); /* the last of next_datagram wasn't sent */
+    void *user;
+};
+
+/* Zero the struct, and set `size` and what there is. All of it is the program's, until dt_udp_close. */
+struct dt_udp_driven {
+    uint32_t size;        /* sizeof(struct dt_udp_driven) */
+    dt_node *node;        /* exactly one of the two: it is open */
+    dt_service *service;
+    struct dt_udp_keeper *keeper;     /* [none: the program has no state folder] */
+    const struct dt_udp_hooks *hooks; /* [none: the functions of deltat.h] */
+};
+
+/* As dt_udp_open, with a node of the program. Of `options` size, node, host, port, params and flags count; the guard,
+ * the ports and the routes are the program's. */
+dt_udp *dt_udp_drive(const struct dt_udp_driven *driven, const struct dt_udp_options *options,
+                     struct dt_udp_error *error);
+
+/* Sets the address of a neighbour, at the other end of a link of the node. What leaves for a node that is no neighbour
+ * goes to one on the same link; what arrives from another address is dropped. DT_INVALID also: of a driver of
+ * dt_udp_open. Else as dt_udp_set_peer, but the route is the program's. */
+dt_status dt_udp_set_neighbour(dt_udp *udp, const struct dt_route *route, const char *host, const char *port,
+                               struct dt_udp_error *error);
+
+/* One event of a batch. It has no pointer, so that a binding reads many at once. */
+struct dt_udp_item {
+    uint64_t call;       /* of an end, or of the request's token */
+    uint32_t at, len;    /* where its octets are in the room, and how many */
+    struct dt_flow flow; /* of a request, or of REPLY_UNCERTAIN */
+    uint8_t kind;        /* enum dt_udp_event_kind: REQUEST, ANSWERED, UNSURE or REPLY_UNCERTAIN */
+    uint8_t cause;       /* of UNSURE: enum dt_cause */
+};
+
+/* Zero the struct, and set the first four. */
+struct dt_udp_batch {
+    struct dt_udp_item *items;
+    uint8_t *octets;
+    uint32_t max_items, size; /* room for so many items, and for so many octets: at least DT_MAX_PAYLOAD */
+    uint32_t count, used;     /* set: how many items there are, and octets */
+    uint32_t *heard;          /* [null] room for DT_UDP_MAX_HEARD nodes */
+    uint32_t heard_count;     /* set: the nodes whose datagrams were passed in, each at least once; DT_UDP_MAX_HEARD
+                                 also if there were more */
+    bool blocked;             /* set: the guard of a driven node dropped a datagram */
+};
+
+enum { DT_UDP_MAX_HEARD = 64 };
+
+/* Returns events of a service as dt_udp_next_event does, many at once: waits at most `wait_ms` ms for the first one,
+ * sends and receives what is due, and puts what was made meanwhile on the wire. Of a driven node, and with `max_items` 0
+ * of a driven service, it takes no events, and returns when something arrived or was due.
+ *   DT_OK        `count` events, 0 if there was none in `wait_ms`, or a signal came
+ *   DT_INVALID   of a node that isn't driven
+ *   DT_NO_MEMORY, DT_STOPPED, DT_NOT_OPEN  the driver can't continue; `count` events waited before that */
+dt_status dt_udp_next_batch(dt_udp *udp, int wait_ms, struct dt_udp_batch *batch);
+
+/* Says that the program called a driven node at the reading `at`, and puts what left the node on the wire: what is more
+ * than 20 ms old is dropped. If the socket wasn't looked at for 5 ms, does what is due, as dt_udp_call and dt_udp_reply
+ * of a driven node do: so a program may make many calls in one go. Returns whether it was looked at. */
+bool dt_udp_flush_since(dt_udp *udp, uint64_t at);
+
+/* Returns the socket, which belongs to the driver, and the errno of the system call that failed, or 0. */
+int dt_udp_socket(dt_udp *udp);
+int dt_udp_system_error(dt_udp *udp);
 
 #ifdef __cplusplus
 }

@@ -118,15 +118,18 @@ install -m 644 "$top/release/overrides" "$root/usr/share/lintian/overrides/delta
 sed -e "s/@VERSION@/$version/" -e "s/@DATE@/$date/" "$top/release/deltat.1" >"$room/deltat.1"
 if [ -f "$libraries/libdeltat.so.2" ]; then
     mkdir -p "$root/usr/include" "$root/usr/lib/$triplet/pkgconfig" "$root/usr/lib/$triplet/cmake/deltat" "$root/usr/lib/python3/dist-packages" "$root/usr/share/man/man3" "$doc/include"
-    make -s -C "$top/lib" deltat.pc deltatConfig.cmake deltatConfigVersion.cmake PREFIX=/usr LIBDIR="/usr/lib/$triplet" PC="$room/deltat.pc" \
+    make -s -C "$top/lib" deltat.pc deltat-udp.pc deltatConfig.cmake deltatConfigVersion.cmake PREFIX=/usr LIBDIR="/usr/lib/$triplet" PC="$room/deltat.pc" \
         CMAKE="$room/deltatConfig.cmake"
-    install -m 644 "$room/deltat.pc" "$root/usr/lib/$triplet/pkgconfig/deltat.pc"
+    install -m 644 "$room/deltat.pc" "$room/deltat-udp.pc" "$root/usr/lib/$triplet/pkgconfig"
     install -m 644 "$room/deltatConfig.cmake" "$room/deltatConfigVersion.cmake" "$root/usr/lib/$triplet/cmake/deltat"
-    install -m 644 "$top/include/deltat.h" "$top/include/deltat.hpp" "$root/usr/include"
+    install -m 644 "$top/include/deltat.h" "$top/include/deltat.hpp" "$top/include/deltat_udp.h" "$root/usr/include"
     install -m 644 "$libraries/libdeltat.a" "$libraries/libdeltat.so.2" "$root/usr/lib/$triplet"
+    install -m 644 "$libraries/libdeltat-udp.a" "$libraries/libdeltat-udp.so.1" "$root/usr/lib/$triplet"
     ln -s libdeltat.so.2 "$root/usr/lib/$triplet/libdeltat.so"
-    ln -s ../../../../include/deltat.h "$doc/include/deltat.h"
-    ln -s ../../../../include/deltat.hpp "$doc/include/deltat.hpp"
+    ln -s libdeltat-udp.so.1 "$root/usr/lib/$triplet/libdeltat-udp.so"
+    for header in deltat.h deltat.hpp deltat_udp.h; do
+        ln -s "../../../../include/$header" "$doc/include/$header"
+    done
     package=$root/usr/lib/python3/dist-packages/deltat
     install -d "$package"
     install -m 644 "$top"/bindings/python/deltat/*.py "$top/bindings/python/deltat/py.typed" "$package"
@@ -138,7 +141,7 @@ if [ -f "$libraries/libdeltat.so.2" ]; then
     gzip -n9 <"$room/library.3" >"$root/usr/share/man/man3/libdeltat.3.gz"
     sed -i -e '$s/(5)$/(5),/' -e '$a.BR libdeltat (3)' "$room/deltat.1"
     cat "$top/release/overrides.library" >>"$root/usr/share/lintian/overrides/deltat"
-    printf 'libdeltat 2 deltat (>= %s)\n' "$version" >"$root/DEBIAN/shlibs"
+    printf 'libdeltat 2 deltat (>= %s)\nlibdeltat-udp 1 deltat (>= %s)\n' "$version" "$version" >"$root/DEBIAN/shlibs"
     printf 'activate-noawait ldconfig\n' >"$root/DEBIAN/triggers"
 fi
 
@@ -159,7 +162,7 @@ changelog | gzip -n9 >"$doc/changelog.gz"
 
 # the least C library that has all that the program and the library name
 set -- "$program"
-[ ! -f "$libraries/libdeltat.so.2" ] || set -- "$@" "$libraries/libdeltat.so.2"
+[ ! -f "$libraries/libdeltat.so.2" ] || set -- "$@" "$libraries/libdeltat.so.2" "$libraries/libdeltat-udp.so.1"
 least=$(cat "$@" | grep -ao 'GLIBC_[0-9][0-9.]*' | sort -Vu | tail -n 1)
 {
     printf 'Package: deltat\nVersion: %s\nArchitecture: %s\nMaintainer: %s\n' "$version" "$architecture" "$maintainer"

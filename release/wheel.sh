@@ -1,9 +1,9 @@
 #!/bin/sh
-# Makes the wheel of the Python package `deltat`, with the shared library inside, from what `make -C lib` made.
+# Makes the wheel of the Python package `deltat`, with the shared libraries inside, from what `make -C lib` made.
 #
 #   release/wheel.sh [FOLDER]       writes FOLDER/deltat-VERSION-py3-none-linux_MACHINE.whl (FOLDER is ., if none is named)
 #
-# DELTAT_LIBRARY names another library than that of lib/. `pip install --no-index FILE` installs the wheel; it needs
+# DELTAT_LIBRARY names another library than that of lib/; libdeltat-udp is beside it, or where DELTAT_UDP_LIBRARY says. `pip install --no-index FILE` installs the wheel; it needs
 # Python 3.11, the C library and nothing else. Prints the wheel's path. Ends with 1 if there is no library, and with 2 if
 # the words are wrong.
 set -eu

@@ -476,13 +476,14 @@ def services() -> bool:
         return asyncio.run(calls_at_once(link, payloads)) and right
 
 
-class Failing(deltat.Udp):
-    """A socket that doesn't take one datagram of ten."""
+class Failing(deltat.Recorded):
+    """A node of which one datagram of ten leaves for a node that has no address, and so isn't sent."""
 
     chance = random.Random(4)
 
-    def _put(self, octets: bytes, address: tuple[str, int]) -> bool:
-        return self.chance.random() >= 0.1 and super()._put(octets, address)
+    def datagrams(self) -> Iterator[deltat.Datagram]:
+        for it in super().datagrams():
+            yield it if self.chance.random() >= 0.1 else it._replace(to=3, link=2)
 
 
 def exchanged(ends: dict[int, deltat.Udp], chance: random.Random, seconds: float) -> int:
@@ -517,8 +518,8 @@ def recorded() -> bool:
         nodes = {}
         for number, most in ((1, record.MOST), (2, SHORT_RECORD)):
             record.MOST = most
-            nodes[number] = deltat.Recorded(f"{folder}/{number}", number, PARAMS, [deltat.Link(1, CHARGE)], {3 - number: 1}, start=deltat.Start(number))
-        ends = {number: Failing(node, (HOST, link.nodes[number - 1]), {3 - number: (HOST, link.port(number))}) for number, node in nodes.items()}
+            nodes[number] = Failing(f"{folder}/{number}", number, PARAMS, [deltat.Link(1, CHARGE)], {3 - number: 1}, start=deltat.Start(number))
+        ends = {number: deltat.Udp(node, (HOST, link.nodes[number - 1]), {3 - number: (HOST, link.port(number))}) for number, node in nodes.items()}
         came = exchanged(ends, chance, PARAMS.quiet_ms / 1000 + 6)
         for number, udp in ends.items():
             udp.close()

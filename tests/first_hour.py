@@ -17,6 +17,7 @@ import os
 import pathlib
 import resource
 import select
+import shutil
 import signal
 import socket
 import subprocess
@@ -38,10 +39,8 @@ if not os.path.exists(LIBRARY):
     skip(f"{LIBRARY} isn't there: make -C lib")
 sys.path.insert(0, given.bindings)
 import deltat  # noqa: E402
-from deltat import clock  # noqa: E402
 from deltat._c import NodeCounts, sized  # noqa: E402
 from deltat import node as node_module  # noqa: E402
-from deltat import udp as udp_module  # noqa: E402
 
 # as `tools/params.py 250 50 --shelf 2` has them: what the pages use
 PARAMS = deltat.Params(mpl=482, r=450, a=5, rto=90, probe=180, seg=1442, cap=65536, rcap=65536, window=65536)
@@ -103,13 +102,14 @@ def pair_of_udp(one: object, two: object, make: type = deltat.Udp) -> tuple[obje
 
 
 @contextlib.contextmanager
-def process(code: str, *words: object) -> Iterator[subprocess.Popen[str]]:
+def process(code: str, *words: object, preload: str = "") -> Iterator[subprocess.Popen[str]]:
     """A program in Python that has these modules, stopped behind the block."""
     own = str(TOP / "tests")
     head = f"import sys\nsys.path[:0] = [{given.bindings!r}, {own!r}]\n"
     head += f"sys.argv[1:1] = ['--bindings', {given.bindings!r}]\n"
     text = head + "words, sys.argv[3:] = sys.argv[3:], []\nfrom first_hour import *\n" + code
-    with subprocess.Popen([sys.executable, "-c", text, *map(str, words)], stdout=subprocess.PIPE, text=True) as it:
+    env = {**os.environ, "LD_PRELOAD": preload}
+    with subprocess.Popen([sys.executable, "-c", text, *map(str, words)], stdout=subprocess.PIPE, text=True, env=env) as it:
         try:
             yield it
         finally:
@@ -182,18 +182,44 @@ def state_is_asked() -> None:
     with deltat.Service(1, None, PARAMS, LINKS, {2: 1}, state=state) as caller:
         caller.set_port(10, deltat.PortKind.CALLER)
         holds(caller.life == 7, "the life isn't that of the state")
-        udp = deltat.Udp(caller, (HOST, own_port()), {2: (HOST, own_port())})
-        put = udp._put
-        udp._put = lambda octets, address: state.notes.append("sent") is None and put(octets, address)
-        caller.call(CALL, b"x", 1000)
-        udp.flush(deltat.now())
-        udp.close()
-    holds(state.notes[1:] == ["packet", "sent", "closed"], f"the state was asked {state.notes[1:]}")
+        with socket.socket(socket.AF_INET, socket.SOCK_DGRAM) as peer:
+            peer.bind((HOST, 0))
+            peer.setblocking(False)
+            udp = deltat.Udp(caller, (HOST, own_port()), {2: peer.getsockname()})
+            caller.call(CALL, b"x", 1000)
+            with raises(BlockingIOError):
+                peer.recv(2000)
+            udp.flush(deltat.now())
+            state.notes.append(f"sent {peer.recv(2000)[16]}")
+            peer.sendto(bytes(40), udp.socket.getsockname())
+            udp.poll(1)
+            udp.close()
+    holds(state.notes[1:] == ["packet", "sent 1", "packet", "closed"], f"the state was asked {state.notes[1:]}")
+    state_refuses()
     with raises(deltat.InvalidArgument):
         deltat.Node(
             1, deltat.Params(1, 3000, 200, 500, 800, 100, 4096, 4096, 512), LINKS, {}, state=(state := FakeState(False))
         )
     holds(state.notes[-1] == "closed", "a start that was refused leaves its state open")
+
+
+def state_refuses() -> None:
+    """A state that can't be written ends the work of a socket, with its error."""
+
+    def refuse(now: int) -> None:
+        raise deltat.StateError("the disk is full")
+
+    state = FakeState(False)
+    state.note_packet = refuse
+    with socket.socket(socket.AF_INET, socket.SOCK_DGRAM) as peer:
+        peer.bind((HOST, 0))
+        udp = deltat.Udp(deltat.Node(1, PARAMS, LINKS, {2: 1}, state=state), (HOST, own_port()), {2: peer.getsockname()})
+        peer.sendto(bytes(40), udp.socket.getsockname())
+        for _ in range(2):
+            with raises(deltat.StateError, "the disk is full"):
+                udp.poll(1)
+        holds(udp.node.counts().datagrams_refused == 0, "a datagram was passed in all the same")
+        udp.close()
 
 
 # --- processes and memory
@@ -454,55 +480,94 @@ class Noting(deltat.Node):
         return super().receive(link, datagram, waited_ms, at)
 
 
-def slow_clock() -> None:
-    """a program is stopped beside a reading of its clock, and a datagram comes meanwhile: it counts as old"""
-    real, stop, failed = clock.now, 0.03, []
-    for has_stamps in (True, False):
-        for is_before in (True, False):
-            for place in range(20):
-                failed += stopped_at(place, stop, is_before, has_stamps)
-    clock.now = real
-    holds(not failed, f"{len(failed)} of 80 stops: {failed[0] if failed else ''}")
+# stops its program at one reading of the clock: a datagram comes, and 30 ms are over, before the reading or behind it
+STOPPING = r"""
+#include <arpa/inet.h>
+#include <errno.h>
+#include <sys/socket.h>
+#include <sys/syscall.h>
+#include <time.h>
+#include <unistd.h>
 
+static int place = -1, count, is_before, has_stamps, from, to;
+static double came = -1;
 
-def stopped_at(place: int, stop: float, is_before: bool, has_stamps: bool) -> list[str]:
-    """Stops a program at that reading of its clock, before it or behind it. The datagrams that count as too young."""
-    real, came = time.CLOCK_BOOTTIME, []
+static int read_clock(clockid_t clock, struct timespec *at) { return (int)syscall(SYS_clock_gettime, clock, at); }
+
+static void stop(void) {
+    struct timespec at;
+    struct sockaddr_in there = {.sin_family = AF_INET, .sin_port = htons(to), .sin_addr.s_addr = htonl(INADDR_LOOPBACK)};
+    char octets[40] = {0};
+    read_clock(CLOCK_BOOTTIME, &at);
+    came = at.tv_sec * 1e3 + at.tv_nsec / 1e6;
+    sendto(from, octets, sizeof octets, 0, (struct sockaddr *)&there, sizeof there);
+    nanosleep(&(struct timespec){0, 30000000}, 0);
+}
+
+int clock_gettime(clockid_t clock, struct timespec *at) {
+    int is_here = clock == CLOCK_BOOTTIME && place >= 0 && count++ == place;
+    if (is_here && is_before) stop();
+    int failed = read_clock(clock, at);
+    if (is_here && !is_before) stop();
+    return failed;
+}
+
+int setsockopt(int fd, int level, int name, const void *value, socklen_t len) {
+    if (level == SOL_SOCKET && name == SO_TIMESTAMPNS && !has_stamps) return errno = ENOPROTOOPT, -1;
+    return (int)syscall(SYS_setsockopt, fd, level, name, value, len);
+}
+
+void set_stop(int at, int before, int stamps, int fd, int port) {
+    place = at, count = 0, is_before = before, has_stamps = stamps, from = fd, to = port, came = -1;
+}
+
+double came_at(void) { return came; }
+"""
+STOPPED = """
+import ctypes
+library = ctypes.CDLL(None)
+library.came_at.restype = ctypes.c_double
+
+def stopped_at(place, before, stamps):
     node = Noting(1, PARAMS, LINKS, {2: 1}, start=deltat.Start.FIRST)
     node.noted = []
-    port, peer = own_port(), socket.socket(socket.AF_INET, socket.SOCK_DGRAM)
-    peer.bind((HOST, 0))
-    count = 0
-
-    def read() -> float:
-        return time.clock_gettime_ns(real) / 1_000_000
-
-    def slow() -> int:
-        nonlocal count
-        count += 1
-        value = int(read())
-        if count == place + 1:
-            came.append(read())
-            peer.sendto(bytes(40), (HOST, port))
-            time.sleep(stop)
-            value = int(read()) if is_before else value
-        return value
-
-    usual = clock.now, udp_module.SO_TIMESTAMPNS
-    clock.now, udp_module.SO_TIMESTAMPNS = slow, usual[1] if has_stamps else socket.SO_REUSEADDR
-    try:
-        with peer, deltat.Udp(node, (HOST, port), {2: peer.getsockname()}) as udp:
-            for _ in range(4):
+    library.set_stop(-1, 0, stamps, 0, 0)
+    with socket.socket(socket.AF_INET, socket.SOCK_DGRAM) as peer:
+        peer.bind((HOST, 0))
+        with deltat.Udp(node, (HOST, 0), {2: peer.getsockname()}) as udp:
+            # (stamps count from 100 ms on)
+            for _ in range(6 if stamps else 1):
+                udp.poll(0.02)
+                time.sleep(0.02)
+            udp.poll(0)
+            library.set_stop(place, before, stamps, peer.fileno(), udp.socket.getsockname()[1])
+            for _ in range(5):
                 udp.poll(0.001)
-    finally:
-        clock.now, udp_module.SO_TIMESTAMPNS = usual
+    came = library.came_at()
     # (a moment is rounded down, and what was waited is rounded up)
-    return [
-        f"at reading {place}, {'before' if is_before else 'behind'} it, stamps {has_stamps}: "
-        f"{at - waited - came[0]:.0f} ms too young"
-        for at, waited in node.noted
-        if at - waited > came[0] + 0.5
-    ]
+    young = [f"{at - waited - came:.0f} ms too young at reading {place}" for at, waited in node.noted if at - waited > came + 0.5]
+    return len(node.noted), young
+
+stops = [stopped_at(place, before, stamps) for stamps in (1, 0) for before in (1, 0) for place in range(14)]
+print(sum(it for it, _ in stops), *(it for _, young in stops for it in young), flush=True)
+"""
+
+
+def slow_clock() -> None:
+    """a program is stopped beside a reading of its clock, and a datagram comes meanwhile: it counts as old"""
+    compiler = shutil.which("cc")
+    if not compiler:
+        print("  not tried: there is no C compiler")
+        return
+    with tempfile.TemporaryDirectory() as folder:
+        place = pathlib.Path(folder, "stopping.c")
+        place.write_text(STOPPING)
+        subprocess.run([compiler, "-shared", "-fPIC", "-O1", "-o", f"{folder}/stopping.so", place], check=True)
+        with process(STOPPED, preload=f"{folder}/stopping.so") as it:
+            count, *young = line_of(it, 60).split(" ", 1)
+    print(f"  {count} datagrams came beside 56 readings", flush=True)
+    holds(int(count) > 40, f"{count} datagrams came")
+    holds(not young, young and young[0])
 
 
 # --- calls
@@ -682,8 +747,7 @@ def closed_loops() -> None:
 
 
 SLOW = """
-node = server_of(9, [1, 2])
-udp = deltat.Udp(node, (HOST, int(words[0])), {it: (HOST, int(words[it])) for it in (1, 2)})
+where = server_of(9, [1, 2]), (HOST, int(words[0])), {it: (HOST, int(words[it])) for it in (1, 2)}
 
 def serve(request):
     if request.payload == b"slow":
@@ -693,17 +757,16 @@ def serve(request):
     return b"done " + request.payload
 
 async def main():
-    async with deltat.AsyncUdp(node, (HOST, int(words[0])), {it: (HOST, int(words[it])) for it in (1, 2)}) as udp:
+    async with deltat.AsyncUdp(*where) as udp:
         calls = deltat.AsyncCalls(udp)
         calls.on(20)(serve)
         print("ready", flush=True)
         await calls.run()
 
 if words[3] == "async":
-    udp.socket.close()
     asyncio.run(main())
 else:
-    calls = deltat.Calls(udp)
+    calls = deltat.Calls(deltat.Udp(*where))
     calls.on(20)(serve)
     print("ready", flush=True)
     calls.run()
@@ -794,7 +857,7 @@ async def main():
 asyncio.run(main())
 """
 # calls a second with 1,000 under way, of a machine that has little else to do, and of one that has more than it can
-FLOOR = 1500, 100
+FLOOR = 5000, 100
 
 
 async def call_on(udp: deltat.AsyncUdp, seconds: float, tasks: int) -> tuple[int, int, float]:
@@ -854,7 +917,7 @@ def many_calls() -> None:
     """1,000 calls are under way at once: all are answered, and quickly (a busy machine gets times that allow for it)"""
     seconds, best, is_patient = 3.0, 0.0, os.getloadavg()[0] > (os.cpu_count() or 1)
     floor = FLOOR[is_patient]
-    for attempt in range(4):
+    for _ in range(4):
         ports = own_port(), own_port()
         with process(ECHO, *ports, *["patient"] * is_patient) as it:
             holds(line_of(it) == "ready", "the service doesn't begin")
@@ -866,7 +929,7 @@ def many_calls() -> None:
         )
         if not unsure:
             best = max(best, answered / seconds)
-        if best >= (5000 if attempt < 1 and not is_patient else floor):
+        if best >= floor:
             break
     holds(best >= floor, f"{best:.0f} calls a second, of the runs in which none was unsure")
 

@@ -120,10 +120,11 @@ def files(root: Path) -> list[Case]:
     wanted = ["usr/lib/deltat/run-node", "usr/lib/deltat/params.py", "lib/systemd/system/deltat-node@.service", "usr/share/man/man1/deltat.1.gz",
               "usr/share/man/man5/deltat-formats.5.gz", "usr/share/bash-completion/completions/deltat", "usr/share/zsh/vendor-completions/_deltat"]
     if LIBRARY.exists():
-        wanted += ["usr/include/deltat.h", "usr/include/deltat.hpp", "usr/share/man/man3/libdeltat.3.gz", "usr/lib/python3/dist-packages/deltat/py.typed"]
+        wanted += ["usr/include/deltat.h", "usr/include/deltat.hpp", "usr/include/deltat_udp.h", "usr/share/man/man3/libdeltat.3.gz", "usr/lib/python3/dist-packages/deltat/py.typed"]
         wanted += [f"usr/lib/python3/dist-packages/deltat/{it.name}" for it in sorted((TOP / "bindings" / "python" / "deltat").glob("*.py"))]
         wanted += [f"usr/share/deltat/rust/{it}" for it in ("Cargo.toml", "deltat/src/lib.rs", "deltat-sys/build.rs", "deltat-sys/src/sys.rs")]
         wanted += [f"usr/lib/{os.uname().machine}-linux-gnu/{it}" for it in ("libdeltat.a", "libdeltat.so.2", "libdeltat.so", "pkgconfig/deltat.pc", "cmake/deltat/deltatConfig.cmake")]
+        wanted += [f"usr/lib/{os.uname().machine}-linux-gnu/{it}" for it in ("libdeltat-udp.a", "libdeltat-udp.so.1", "libdeltat-udp.so", "pkgconfig/deltat-udp.pc")]
     missing = [it for it in wanted if not (root / it).is_file()] + [it.name for it in (TOP / "docs").glob("*.md") if not (doc / "docs" / it.name).is_file()]
     missing += [it.name for it in (TOP / "examples").rglob("*") if it.is_file() and it.suffix != ".pyc" and not (doc / it.relative_to(TOP)).is_file()]
     said = (doc / "PROVED").read_text()

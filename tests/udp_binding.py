@@ -1,6 +1,6 @@
 #!/usr/bin/env python3
-"""The Python module over the driver, deltat.driver: calls, messages, asyncio, and each error as an
-exception.
+"""The Python modules over the driver: calls, messages, asyncio and each error as an exception, by deltat.driver; and
+the neighbours, the state folder and the batches of the sockets of `deltat`.
 
 `tests/udp_binding.py [CASE ..]`; all cases where none is named. Both ends are processes or drivers of this one. Ends
 with 77 where lib/libdeltat.so.2 or lib/libdeltat-udp.so.1 isn't there (make -C lib).
@@ -8,8 +8,11 @@ with 77 where lib/libdeltat.so.2 or lib/libdeltat-udp.so.1 isn't there (make -C 
 In tests/all: no words, 180 s."""
 import argparse
 import asyncio
+import contextlib
 import multiprocessing
 import os
+import pathlib
+import socket
 import sys
 import tempfile
 import time
@@ -244,7 +247,95 @@ def errors() -> str:
     return "UdpError, StateError, InvalidArgument, Declined, Gone, Stopped"
 
 
-CASES = [calls, at_once, messages, uncertain, errors]
+# --- nodes that Python opened, and the driver drives
+
+
+def node_of(number: int, links: list[int], routes: dict[int, int]) -> deltat.Node:
+    return deltat.Node(number, PARAMS, [deltat.Link(it, 294) for it in links], routes, start=Start.FIRST)
+
+
+def neighbours() -> str:
+    """A node with two links and two neighbours: what leaves for nodes behind them goes to the right one, what comes
+    from behind them is taken in, and what comes from elsewhere isn't."""
+    with contextlib.ExitStack() as ends:
+        near, far, strange = (ends.enter_context(socket.socket(socket.AF_INET, socket.SOCK_DGRAM)) for _ in range(3))
+        for it in (near, far, strange):
+            it.bind((HOST, 0))
+            it.settimeout(5)
+        node = node_of(1, [7, 8, 9], {2: 7, 3: 7, 4: 8, 5: 8, 6: 9})
+        udp = ends.enter_context(deltat.Udp(node, (HOST, 0), {2: near.getsockname(), 4: far.getsockname()}))
+        for target, end in ((2, near), (3, near), (4, far), (5, far)):
+            udp.send(deltat.Flow(1, 10, target, 20), b"to %d" % target)
+            octets = end.recv(2000)
+            wants(int.from_bytes(octets[12:16], "big") == target, f"what is for {target} goes to its neighbour")
+        udp.send(deltat.Flow(1, 10, 6, 20), b"nowhere")
+        wants(udp.not_sent == 1, "a link without a neighbour: its datagram isn't sent, and is counted")
+        for maker, end, is_heard in ((3, near, True), (4, far, True), (5, far, True), (2, strange, False)):
+            other = node_of(maker, [1], {1: 1})
+            other.send(deltat.Flow(maker, 30, 1, 40), b"from %d" % maker)
+            end.sendto(next(other.datagrams()).octets, udp.socket.getsockname())
+            found = [it.octets for it in udp.run_for(0.2)]
+            wants(found == [b"from %d" % maker] * is_heard, f"from {maker}: {found}")
+        wants(udp.strangers == 1, f"{udp.strangers} of a stranger")
+    return "2 of 3 links"
+
+
+def unlisted() -> str:
+    """A client by `deltat.Udp` that its service doesn't list answers the challenge, and is answered; its state folder
+    has what the driver passed in."""
+    with service(serve) as port, tempfile.TemporaryDirectory() as folder:
+        number, lives = deltat.fresh_number(), []
+        for _ in range(2):
+            with deltat.State(folder, number, PARAMS) as state:
+                lives.append(state.life)
+                node = deltat.Service(number, None, PARAMS, [deltat.Link(1, 294)], {2: 1}, state=state)
+                node.set_port(CALLER, PortKind.CALLER)
+                with deltat.Udp(node, (HOST, 0), {2: (HOST, port)}) as udp:
+                    udp.run_for(state.silence() / 1000)
+                    made, answer = deltat.Calls(udp), b""
+                    for _ in range(20):
+                        try:
+                            answer = made.call(deltat.Flow(number, CALLER, 2, SERVICE), b"hello", 2.0)
+                            break
+                        except Unsure:  # (the process isn't there yet)
+                            pass
+                    wants(answer == b"olleh", f"{answer!r} is the answer")
+                    wants(state._keeper.noted > deltat.now() - 1000, "the state was told of the inputs")
+                last = pathlib.Path(folder, "last").read_text()
+                wants(int(last.split("until ")[1][:20]) == state._keeper.noted, f"the end of a life: {last}")
+        wants(lives == [1, 2], f"lives {lives}")
+    return "two lives"
+
+
+def large() -> str:
+    """Requests and answers of 60,000 octets, more at once than one batch has room for: each gets its own."""
+
+    async def main() -> list[bytes]:
+        ports, ends = (free_port(), free_port()), []
+        for number, kind in ((1, PortKind.CALLER), (2, PortKind.SERVICE)):
+            node = deltat.Service(number, 1, PARAMS, [deltat.Link(1, 294)], {3 - number: 1}, start=Start.FIRST)
+            for port in range(10, 22):
+                node.set_port(port, kind)
+            ends.append(deltat.AsyncUdp(node, (HOST, ports[number - 1]), {3 - number: (HOST, ports[2 - number])}))
+        async with ends[0], ends[1]:
+            made, served = deltat.AsyncCalls(ends[0]), deltat.AsyncCalls(ends[1])
+            for port in range(10, 22):
+
+                @served.on(port)
+                async def echo(request: Request, port: int = port) -> bytes:
+                    return b"%d " % port + request.payload
+
+            serving = asyncio.create_task(served.run())
+            flows = [deltat.Flow(1, port, 2, port) for port in range(10, 22)]
+            found = await asyncio.gather(*(made.call(it, bytes([it[1]]) * 60_000, 20.0) for it in flows))
+            serving.cancel()
+            return found
+
+    wants(asyncio.run(main()) == [b"%d " % it + bytes([it]) * 60_000 for it in range(10, 22)], "other answers")
+    return "12 calls"
+
+
+CASES = [calls, at_once, messages, uncertain, errors, neighbours, unlisted, large]
 
 
 def main() -> int:

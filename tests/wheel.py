@@ -5,7 +5,7 @@ Python has no venv or pip (Debian: python3-venv).
 - `release/wheel.sh` makes it, twice the same, octet for octet; pip makes the same one of bindings/python; and without a
   library nothing is made, and the error says what to do.
 - `pip install --no-index` puts it into a fresh environment. There, without any variable that names a library or a
-  module, the package imports, from that environment, and the library that the process has is the one of the wheel.
+  module, the package imports, from that environment, and the libraries that the process has are those of the wheel.
 - examples/hello.py is the program that docs/library.md shows, of 25 lines at most, and prints what it says there;
   examples/echo.py answers, both ends from the environment. The program of README has 25 lines at most.
 - A library of interface 1, or none, is refused at the import, and the error says what to install.
@@ -32,6 +32,8 @@ MOST_LINES = 25
 FORMER = "#include <stdint.h>\nuint32_t dt_abi(void) { return 1; }\n"
 # which files the import has, as the kernel sees them
 LOADED = """import deltat
+from deltat import _c_udp
+_c_udp.libraries()
 maps = {line.split()[-1] for line in open("/proc/self/maps") if "libdeltat" in line}
 print(deltat.__file__, *sorted(maps), deltat.version())
 """
@@ -136,8 +138,9 @@ def installed(folder: pathlib.Path) -> Iterator[Case]:
     yield "pip install --no-index", ran.returncode == 0, ran.stderr[-500:]
     ran = run(python, "-c", LOADED)
     package = place / "lib" / f"python{sys.version_info[0]}.{sys.version_info[1]}" / "site-packages" / "deltat"
-    wanted = [str(package / "__init__.py"), str(package / LIBRARY.name), (TOP / "VERSION").read_text().strip()]
-    yield "it imports, with the library of the wheel", ran.stdout.split() == wanted, ran.stdout + ran.stderr[-500:]
+    driver = next((TOP / "lib").glob("libdeltat-udp.so.*")).name
+    wanted = [str(package / "__init__.py"), str(package / driver), str(package / LIBRARY.name), (TOP / "VERSION").read_text().strip()]
+    yield "it imports, with the libraries of the wheel", ran.stdout.split() == wanted, ran.stdout + ran.stderr[-500:]
     yield from programs(python, folder)
     yield from refused(python, folder)
     ran = run(python, "-m", "pip", "uninstall", "--yes", "deltat")

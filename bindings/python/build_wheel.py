@@ -1,6 +1,6 @@
-"""Builds the wheel of the package `deltat`, with the shared library inside: release/wheel.sh and pip call it.
+"""Builds the wheel of the package `deltat`, with the shared libraries inside: release/wheel.sh and pip call it.
 
-The wheel has the package, libdeltat.so of lib/ and the metadata of pyproject.toml, and is the same, octet for octet,
+The wheel has the package, libdeltat.so and libdeltat-udp.so of lib/ and the metadata of pyproject.toml, and is the same, octet for octet,
 whenever it is made of the same files. It needs nothing but Python's standard library. The version is that of the file
 VERSION. Wheels are tagged for the machine that builds them, as py3-none-linux_x86_64: the library is compiled code, but
 has no part of Python's own interface."""
@@ -23,19 +23,19 @@ TIME = (1980, 1, 1, 0, 0, 0)
 
 
 class NoLibrary(Exception):
-    """The shared library isn't there, so there is nothing to put into the wheel."""
+    """A shared library isn't there, so there is nothing to put into the wheel."""
 
 
-def library() -> tuple[str, bytes]:
-    """Returns the name and the octets of the shared library: DELTAT_LIBRARY, if it is set, or that of lib/. Raises
-    NoLibrary."""
-    abi = re.search(r"^ABI_VERSION = (\d+)$", (HERE / "deltat" / "_c.py").read_text(), re.MULTILINE)
+def library(kind: str, module: str, folder: Path) -> tuple[str, Path]:
+    """Returns the name of a shared library, whose interface a module of the package has, and its file: in the folder,
+    unless a variable names it. Raises NoLibrary."""
+    abi = re.search(r"^ABI_VERSION = (\d+)$", (HERE / "deltat" / module).read_text(), re.MULTILINE)
     assert abi
-    name = f"libdeltat.so.{abi[1]}"
-    found = Path(os.environ.get("DELTAT_LIBRARY") or TOP / "lib" / name)
+    name, variable = f"lib{kind}.so.{abi[1]}", f"{kind.upper().replace('-', '_')}_LIBRARY"
+    found = Path(os.environ.get(variable) or folder / name)
     if not found.is_file():
-        raise NoLibrary(f"{found} isn't there; build it with `make -C lib`, or set DELTAT_LIBRARY to its path")
-    return name, found.read_bytes()
+        raise NoLibrary(f"{found} isn't there; build it with `make -C lib`, or set {variable} to its path")
+    return name, found
 
 
 def metadata(project: dict[str, object], version: str) -> str:
@@ -52,10 +52,12 @@ def contents(tag: str) -> dict[str, bytes]:
     """The files of the wheel but RECORD, by their names in it."""
     project = tomllib.loads((HERE / "pyproject.toml").read_text())["project"]
     version = (TOP / "VERSION").read_text().strip()
-    name, octets = library()
+    name, file = library("deltat", "_c.py", TOP / "lib")
+    # (the driver over UDP is beside it)
+    driver, driver_file = library("deltat-udp", "_c_udp.py", file.parent)
     found = {f"deltat/{it.name}": it.read_bytes() for it in sorted((HERE / "deltat").glob("*.py"))}
     found["deltat/py.typed"] = b""
-    found[f"deltat/{name}"] = octets
+    found[f"deltat/{name}"], found[f"deltat/{driver}"] = file.read_bytes(), driver_file.read_bytes()
     info = f"deltat-{version}.dist-info"
     found[f"{info}/METADATA"] = metadata(project, version).encode()
     found[f"{info}/WHEEL"] = f"Wheel-Version: 1.0\nGenerator: deltat\nRoot-Is-Purelib: false\nTag: {tag}\n".encode()

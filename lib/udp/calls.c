@@ -95,6 +95,7 @@ struct dt_call_result dt_udp_call(dt_udp *u, const struct dt_flow *flow, const v
     struct dt_call_result made = dtu_core_call(&u->core, at, flow, &payload, timeout_ms);
     if (made.status == DT_OK) u->open_calls++;
     dtu_judge(u);
+    if (u->core.driven) (void)dtu_events_keep_up(u, at);
     return made;
 }
 
@@ -105,6 +106,7 @@ struct dt_reply_result dt_udp_reply(dt_udp *u, const struct dt_token *token, con
     struct iovec payload = payload_of(octets, len);
     struct dt_reply_result replied = dtu_core_reply(&u->core, at, token, &payload);
     dtu_judge(u);
+    if (u->core.driven) (void)dtu_events_keep_up(u, at);
     return replied;
 }
 

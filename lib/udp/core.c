@@ -48,30 +48,39 @@ struct dt_open_result dtu_core_open(struct core *core, const struct dt_udp_optio
 }
 
 void dtu_core_close(struct core *core) {
-    dt_node_free(core->node);
-    dt_service_free(core->service);
+    if (!core->driven) {
+        dt_node_free(core->node);
+        dt_service_free(core->service);
+    }
     core->node = NULL;
     core->service = NULL;
 }
 
 dt_status dtu_core_tick(struct core *core, uint64_t now) {
+    if (core->hooks) return kept(core, core->hooks->tick(core->hooks->user, now));
     return kept(core, core->node ? dt_node_tick(core->node, now) : dt_service_tick(core->service, now));
 }
 
 dt_status dtu_core_receive(struct core *core, uint64_t now, const uint8_t *octets, size_t len, uint32_t waited_ms) {
+    if (core->hooks) {
+        struct dt_udp_datagram given = {octets, len, now, waited_ms, core->link};
+        return core->received = kept(core, core->hooks->receive(core->hooks->user, &given));
+    }
     struct dt_receive_result it = core->node
                                       ? dt_node_receive(core->node, now, core->link, octets, len, waited_ms)
                                       : dt_service_receive(core->service, now, core->link, octets, len, waited_ms);
-    return kept(core, it.status);
+    return core->received = kept(core, it.status);
 }
 
 /* Takes the next datagram that is to be sent, of at most DT_MAX_DATAGRAM octets. */
 bool dtu_core_next_datagram(struct core *core, uint8_t *room, size_t *len, uint32_t *to) {
     struct dt_datagram it = {.size = sizeof it};
-    dt_status status = core->node ? dt_node_next_datagram(core->node, room, DT_MAX_DATAGRAM, &it)
-                                  : dt_service_next_datagram(core->service, room, DT_MAX_DATAGRAM, &it);
+    dt_status status = core->hooks  ? core->hooks->next_datagram(core->hooks->user, room, &it)
+                       : core->node ? dt_node_next_datagram(core->node, room, DT_MAX_DATAGRAM, &it)
+                                    : dt_service_next_datagram(core->service, room, DT_MAX_DATAGRAM, &it);
     *len = it.len;
     *to = it.to;
+    core->link_out = it.link;
     return status == DT_OK;
 }
 
@@ -82,6 +91,7 @@ bool dtu_core_next_report(struct core *core, struct dt_report *report) {
 
 /* DT_NEVER: nothing is due. */
 uint64_t dtu_core_wake(struct core *core) {
+    if (core->hooks) return core->hooks->wake(core->hooks->user);
     return core->node ? dt_node_wake(core->node) : dt_service_wake(core->service);
 }
 

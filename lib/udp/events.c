@@ -107,7 +107,7 @@ static void collect_messages(dt_udp *u, uint64_t at) {
 
 /* Takes what the node has to say after a call with the reading `at`. A service keeps its events itself. */
 void dtu_events_collect(dt_udp *u, uint64_t at) {
-    if (u->core.node == NULL) return;
+    if (u->core.node == NULL || u->core.driven) return; /* (a driven node is the program's to ask) */
     collect_reports(u);
     collect_messages(u, at);
     collect_reports(u);
@@ -192,7 +192,7 @@ static bool next_failure(dt_udp *u) {
 
 /* Before events that wait are handed out: a program that is slow mustn't keep the node from its work. Returns whether
  * the socket was looked at. */
-static bool keep_up(dt_udp *u, uint64_t now) {
+bool dtu_events_keep_up(dt_udp *u, uint64_t now) {
     if (now - u->turned_at >= TURN_MS) {
         dtu_loop_turn(u, 0);
         return true;
@@ -212,7 +212,7 @@ const struct dt_udp_event *dt_udp_next_event(dt_udp *u, int wait_ms) {
     }
     uint64_t now = dtu_clock_ms(), end = wait_ms < 0 ? DT_NEVER : now + (uint64_t)wait_ms;
     u->interrupted = false;
-    for (bool looked = keep_up(u, now); !next_event(u) && !next_failure(u); looked = true) {
+    for (bool looked = dtu_events_keep_up(u, now); !next_event(u) && !next_failure(u); looked = true) {
         now = wait_ms > 0 ? dtu_clock_ms() : now;
         if (looked && !u->in.full && (u->interrupted || now >= end)) break;
         uint64_t left = end - now;

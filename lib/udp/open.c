@@ -44,7 +44,7 @@ void dtu_judge(dt_udp *u) {
 bool dtu_begin(dt_udp *u, uint64_t us) {
     uint64_t at = us / 1000;
     if (u->failed) return false;
-    if (!dtu_state_note(u, at)) {
+    if (!dtu_state_note(u, at) || !dtu_driven_note(u, at)) {
         dtu_fail(u, DT_NOT_OPEN, errno);
         return false;
     }
@@ -143,20 +143,31 @@ static dt_status open_all(dt_udp *u, const struct dt_udp_options *options, struc
     u->opened = dtu_clock_reading();
     dtu_clock_was_empty(u, &u->opened);
     u->ahead_ns = u->opened.wall - u->opened.boot;
-    status = open_core(u, error);
+    if (!u->core.driven) status = open_core(u, error);
     u->options.host = u->options.port = u->options.state = NULL; /* (they are the caller's) */
     return status;
 }
 
-dt_udp *dt_udp_open(const struct dt_udp_options *options, struct dt_udp_error *error) {
+/* `driven`: the node that the program opened, or null. */
+dt_udp *dtu_open(const struct dt_udp_driven *driven, const struct dt_udp_options *options,
+                 struct dt_udp_error *error) {
     if (error) memset(error, 0, sizeof *error);
     dt_udp *u = calloc(1, sizeof *u);
     if (u == NULL) return (void)dtu_refuse(error, DT_NO_MEMORY, 0, "out of memory"), NULL;
+    if (driven) {
+        u->core = (struct core){
+            .node = driven->node, .service = driven->service, .hooks = driven->hooks, .driven = true};
+        u->driven.keeper = driven->keeper;
+    }
     u->socket = u->epoll = u->timer = u->state.folder = u->state.lock = u->state.last = -1;
     u->armed_at = u->out.made_at = DT_NEVER;
     if (open_all(u, options, error) == DT_OK) return u;
     dt_udp_close(u);
     return NULL;
+}
+
+dt_udp *dt_udp_open(const struct dt_udp_options *options, struct dt_udp_error *error) {
+    return dtu_open(NULL, options, error);
 }
 
 void dt_udp_close(dt_udp *u) {
@@ -170,6 +181,7 @@ void dt_udp_close(dt_udp *u) {
     dtu_writing_close(u);
     dtu_strangers_close(u);
     dtu_watch_close(u);
+    dtu_driven_close(u);
     dtu_peers_close(&u->peers);
     dtu_loop_close(u);
     free(u->ports.list);

@@ -113,9 +113,20 @@ void dtu_take_frame(dt_udp *u, struct peer *peer, const struct arrival *it) {
     dtu_strangers_heard(u, peer);
 }
 
+/* Takes a datagram of a node that its program opened, which has no watch. */
+static void receive_driven(dt_udp *u, struct arrival *it) {
+    if (dtu_is_control(u, it)) return;
+    it->maker = it->len < HEADER ? 0 : (uint32_t)dtu_get_number(it->octets + MADE_BY, MAKER_LEN);
+    dtu_driven_receive(u, it);
+}
+
 /* Takes a datagram: one of the drivers' own, or a frame that came from its maker's address. */
 static void receive(dt_udp *u, struct arrival *it) {
     u->counts.datagrams_in++;
+    if (u->core.driven) {
+        receive_driven(u, it);
+        return;
+    }
     if (!dtu_watch_strip(u, it)) return;
     bool bare = dtu_watch_is_bare(u, it);
     if (!bare && dtu_is_control(u, it)) return;

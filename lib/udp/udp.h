@@ -16,6 +16,8 @@
  *   calls.c     what a program asks of the node
  *   objects.c   objects, in chunks over several flows
  *   octets.c    numbers in octets
+ *   driven.c    nodes that the program opened: neighbours, hooks, the keeper
+ *   batch.c     many events at once
  */
 #ifndef DELTAT_UDP_INTERNAL_H
 #define DELTAT_UDP_INTERNAL_H
@@ -116,6 +118,7 @@ struct peer {
     struct peer *next; /* in its bucket */
     struct watch *watch; /* null: nothing came yet */
     struct peer *next_too_big, *next_prover;
+    struct peer *next_there; /* of a neighbour: in its bucket by address */
     struct peer *older, *newer; /* of learnt peers: in the order in which they were heard */
     struct address at; /* the one that is in use */
     struct own_address own;
@@ -123,6 +126,7 @@ struct peer {
     uint64_t sent_at;   /* when one was last sent to it */
     uint64_t proved_at; /* when it last asked us to prove our address */
     uint64_t key;       /* of a learnt peer: of its opening */
+    uint16_t link; /* of a neighbour */
     uint32_t node, too_big; /* too_big: octets of a datagram that didn't fit the path, to be reported, or 0 */
     bool configured;        /* by dt_udp_set_peer */
     bool heard;             /* from `at`: no other address of its name is tried */
@@ -189,8 +193,24 @@ struct arrival {
 struct core {
     dt_node *node;
     dt_service *service;
-    uint16_t link;
-    uint8_t stopped; /* the status that stopped it, or 0 */
+    const struct dt_udp_hooks *hooks; /* null: the functions of deltat.h */
+    uint16_t link;      /* of a driven node: that of the last datagram in */
+    uint16_t link_out;  /* that of the last datagram out */
+    uint8_t stopped;    /* the status that stopped it, or 0 */
+    uint8_t received;   /* the status of the last datagram in */
+    bool driven;        /* the program opened it, and closes it */
+};
+
+/* What there is of a node that the program opened. */
+struct driven {
+    struct dt_udp_keeper *keeper;
+    struct peer **there;   /* neighbours by address: `size` buckets, a power of 2; null: none */
+    size_t count, size;
+    struct peer *hop;      /* the neighbour on a link that was looked for last */
+    uint64_t lost;         /* frames that weren't sent, as far as the hooks know */
+    uint32_t heard[DT_UDP_MAX_HEARD]; /* makers of what was passed in since the last batch */
+    uint32_t heard_count;
+    bool blocked;          /* the guard dropped a datagram since then */
 };
 
 /* A whole message that waits for dt_udp_next_event. */
@@ -282,6 +302,7 @@ struct dt_udp {
     struct dt_udp_counts counts;
     struct dt_udp_event event;
     struct core core;
+    struct driven driven;
     struct peers peers;
     struct ports ports;
     struct strangers strangers;
@@ -348,6 +369,7 @@ uint64_t dtu_core_quiet_ms(const struct dt_params *params);
 
 /* --- open.c */
 bool dtu_is_usable(dt_udp *u);
+dt_udp *dtu_open(const struct dt_udp_driven *driven, const struct dt_udp_options *options, struct dt_udp_error *error);
 void dtu_fail(dt_udp *u, dt_status status, int system_error);
 void dtu_judge(dt_udp *u);
 bool dtu_begin(dt_udp *u, uint64_t us);
@@ -443,6 +465,14 @@ void dtu_write_all(dt_udp *u);
 void dtu_write_control(dt_udp *u, const struct arrival *to, const uint8_t *octets, size_t len);
 void dtu_write_held(dt_udp *u, const struct peer *peer);
 
+/* --- driven.c */
+void dtu_driven_close(dt_udp *u);
+void dtu_driven_begin(dt_udp *u);
+bool dtu_driven_note(dt_udp *u, uint64_t at);
+void dtu_driven_receive(dt_udp *u, struct arrival *arrival);
+struct peer *dtu_driven_next_hop(dt_udp *u);
+void dtu_driven_written(dt_udp *u);
+
 /* --- loop.c */
 void dtu_loop_close(dt_udp *u);
 void dtu_loop_arm(dt_udp *u);
@@ -452,5 +482,6 @@ void dtu_loop_turn(dt_udp *u, int wait_ms);
 dt_status dtu_events_open(dt_udp *u);
 void dtu_events_close(dt_udp *u);
 void dtu_events_collect(dt_udp *u, uint64_t at);
+bool dtu_events_keep_up(dt_udp *u, uint64_t now);
 
 #endif

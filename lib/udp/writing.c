@@ -101,11 +101,12 @@ static void move_behind(dt_udp *u) {
 static bool gather(dt_udp *u, unsigned *parts) {
     uint32_t to;
     u->out.count = *parts = 0;
-    for (unsigned tried = 0; tried < OUT_BATCH; tried++) {
+    for (unsigned tried = 0; tried < (u->core.hooks ? 1 : OUT_BATCH); tried++) {
         struct iovec *part = &u->out.parts[*parts];
         part->iov_base = u->out.rooms + (size_t)*parts * FRAME_ROOM;
         if (!dtu_core_next_datagram(&u->core, part->iov_base, &part->iov_len, &to)) return false;
         struct peer *peer = dtu_peers_find(&u->peers, to);
+        if (peer == NULL && u->core.driven) peer = dtu_driven_next_hop(u);
         if (peer == NULL || peer->at.len == 0) {
             u->counts.not_sent++;
             continue;
@@ -237,6 +238,7 @@ static void write_frames(dt_udp *u) {
         more = gather(u, &parts);
         if (parts > 0 && is_late(u->out.made_at)) u->counts.not_sent += parts;
         else send_heads(u);
+        dtu_driven_written(u);
     }
     u->out.made_at = DT_NEVER;
     dtu_loop_arm(u);

@@ -21,8 +21,9 @@ A node and its socket are used by one thread at a time, and by the process that 
 call raises `Forked`. Times, and arguments whose names end in `_ms`, are in ms; timeouts are in seconds. The logger
 `deltat` has what a program should look at. docs/library.md has the words, and include/deltat.h the duties of a program.
 
-The functions of the library are proved; this package, which calls them, is tested only. The library is looked for at
-DELTAT_LIBRARY, if that is set, then beside this file, in lib/ of the clone that has it, and in the system's places."""
+The functions of the library are proved; this package, which calls them, and libdeltat-udp, which drives its sockets,
+are tested only. The library is looked for at DELTAT_LIBRARY, if that is set, then beside this file, in lib/ of the
+clone that has it, and in the system's places; libdeltat-udp at DELTAT_UDP_LIBRARY, or where the library is."""
 
 from typing import TYPE_CHECKING
 
@@ -41,6 +42,7 @@ from .errors import (
     Quiet,
     StateError,
     Stopped,
+    UdpError,
     Unsure,
 )
 from .node import AnyNode, Node
@@ -122,6 +124,7 @@ __all__ = [
     "Stopped",
     "Token",
     "Udp",
+    "UdpError",
     "Unsure",
     "UnsureCall",
     "fresh_number",

@@ -22,152 +22,30 @@
 iteration, as that of `deltat.Udp`; `Calls` and `AsyncCalls` have the names of those of `deltat`. A driver is used by
 one thread at a time, and by the process that opened it. Objects and reports aren't in this module.
 
-The library is looked for at DELTAT_UDP_LIBRARY, if that is set, then as `libdeltat-udp.so.1` beside this file, in lib/
-of the clone that has it, and in the system's places. An import of `deltat` doesn't need it."""
+The library is looked for as that of `deltat.Udp` is."""
 
 from __future__ import annotations
 
 import asyncio
 import ctypes
-import enum
 import math
 import os
 import time
 from collections import deque
 from collections.abc import AsyncIterator, Awaitable, Callable, Iterator
-from pathlib import Path
 
-from . import _c
+from . import _c, _c_udp
 from ._c import Cause, PortKind, Start, Status
-from .errors import Declined, DeltatError, Full, InvalidArgument, OutOfMemory, Quiet, StateError, Stopped, Unsure
-from .service import Request, Token, _invalid, _ms, _raise_gone, _token
+from ._c_udp import Error as _Error, Event as _Event, Kind as _Kind
+from .driven import refuse
+from .errors import Declined, DeltatError, Full, InvalidArgument, OutOfMemory, Quiet, Stopped, UdpError, Unsure
+from .service import Request, Token, _gone, _invalid, _ms, _token
 from .values import Flow, Message, Params, flow_from_c, flow_to_c, in_range, octets_of, params_of
 
 __all__ = ["AsyncCalls", "Calls", "Udp", "UdpError"]
 
-ABI_VERSION = 1
-NAME = f"libdeltat-udp.so.{ABI_VERSION}"
-_ROLES = {False: 1, True: 2}
+_waits, _library = _c_udp.libraries()
 
-
-class _Kind(enum.IntEnum):
-    """`enum dt_udp_event_kind`."""
-
-    NONE = 0
-    MESSAGE = 1
-    REQUEST = 2
-    ANSWERED = 3
-    UNSURE = 4
-    REPORT = 5
-    TOO_BIG = 6
-    OBJECT = 7
-    PUT_ENDED = 8
-    FAILED = 9
-    REPLY_UNCERTAIN = 10
-
-
-class UdpError(DeltatError, OSError):
-    """The driver can't be opened, or a system call failed without which it can't continue."""
-
-
-# --- the structs of include/deltat_udp.h
-
-_U8, _U16, _U32, _U64 = ctypes.c_uint8, ctypes.c_uint16, ctypes.c_uint32, ctypes.c_uint64
-
-
-class _Options(ctypes.Structure):
-    _fields_ = [
-        ("size", _U32),
-        ("node", _U32),
-        ("host", ctypes.c_char_p),
-        ("port", ctypes.c_char_p),
-        ("params", ctypes.POINTER(_c.Params)),
-        ("charge", _U32),
-        ("pace", _U32),
-        ("link", _U16),
-        ("role", _U8),
-        ("start_as", _U8),
-        ("life", _U32),
-        ("state", ctypes.c_char_p),
-        ("max_calls", _U32),
-        ("max_requests", _U32),
-        ("max_requests_per_flow", _U32),
-        ("max_message", _U32),
-        ("max_queued", _U32),
-        ("max_flows", _U32),
-        ("max_peers", _U32),
-        ("report_kinds", _U32),
-        ("flags", _U32),
-    ]
-
-
-class _Error(ctypes.Structure):
-    _fields_ = [("text", ctypes.c_char * 240), ("system_error", ctypes.c_int), ("status", _U8), ("field", _U8)]
-
-
-class _Event(ctypes.Structure):
-    _fields_ = [
-        ("octets", ctypes.c_void_p),
-        ("len", ctypes.c_size_t),
-        ("call", _U64),
-        ("object", _U64),
-        ("token", _c.Token),
-        ("flow", _c.Flow),
-        ("peer", _U32),
-        ("system_error", ctypes.c_int32),
-        ("kind", _U8),
-        ("cause", _U8),
-        ("gap", ctypes.c_bool),
-        ("report", ctypes.POINTER(_c.Report)),
-    ]
-
-
-def _exports() -> dict[str, tuple[object, list[object]]]:
-    p, size, text, flow = ctypes.c_void_p, ctypes.c_size_t, ctypes.c_char_p, ctypes.POINTER(_c.Flow)
-    error, token = ctypes.POINTER(_Error), ctypes.POINTER(_c.Token)
-    return {
-        "dt_udp_abi_version": (_U32, []),
-        "dt_udp_open": (p, [ctypes.POINTER(_Options), error]),
-        "dt_udp_close": (None, [p]),
-        "dt_udp_set_peer": (_U8, [p, _U32, text, text, error]),
-        "dt_udp_open_port": (_U8, [p, _U16, _U8]),
-        "dt_udp_next_event": (ctypes.POINTER(_Event), [p, ctypes.c_int]),
-        "dt_udp_send": (_c.SendResult, [p, flow, text, size]),
-        "dt_udp_call": (_c.CallResult, [p, flow, text, size, _U32]),
-        "dt_udp_reply": (_c.ReplyResult, [p, token, text, size]),
-        "dt_udp_forget": (_U8, [p, token]),
-        "dt_udp_flush": (None, [p]),
-        "dt_udp_drain": (_U8, [p, ctypes.c_int]),
-        "dt_udp_fd": (ctypes.c_int, [p]),
-        "dt_udp_local_port": (_U16, [p]),
-        "dt_udp_silent_ms": (_U64, [p]),
-        "dt_udp_life": (_U32, [p]),
-    }
-
-
-def _load(kind: type[ctypes.CDLL]) -> ctypes.CDLL:
-    here = Path(__file__).resolve().parent
-    found = [str(it / NAME) for it in (here, here.parents[2] / "lib") if (it / NAME).exists()]
-    path = os.environ.get("DELTAT_UDP_LIBRARY") or (found or [NAME])[0]
-    try:
-        library = kind(path, use_errno=True)
-    except OSError as why:
-        raise ImportError(
-            f"deltat.driver: {path} can't be loaded ({why}); build it with `make -C lib`, or set DELTAT_UDP_LIBRARY to "
-            "its path"
-        ) from why
-    library.dt_udp_abi_version.restype = _U32
-    version = library.dt_udp_abi_version()
-    if version != ABI_VERSION:
-        raise ImportError(f"{path} has interface {version}, and this module needs {ABI_VERSION}")
-    for name, (result, arguments) in _exports().items():
-        function = getattr(library, name)
-        function.restype, function.argtypes = result, arguments
-    return library
-
-
-# (a call that may wait lets other threads run; the others are short)
-_waits, _library = _load(ctypes.CDLL), _load(ctypes.PyDLL)
 
 
 def _milliseconds(seconds: float | None) -> int:
@@ -209,32 +87,19 @@ class Udp:
         OutOfMemory; TypeError without a start, or with two."""
         if (start is None) == (state is None):
             raise TypeError(f"node {node}: pass `state`, or `start`: Start.AGAIN unless the number is new")
-        options = _c.sized(_Options)
+        options = _c.sized(_c_udp.Options)
         options.node, options.charge = in_range(node, 32, "node"), in_range(charge, 32, "charge")
         options.host, options.port = host and host.encode(), None if port is None else str(port).encode()
         options.params = ctypes.pointer(params_of(params))
         options.pace, options.life = in_range(pace, 32, "pace"), in_range(life, 32, "life")
-        options.role, options.start_as = _ROLES[service], start or 0
+        options.role, options.start_as = _c_udp.ROLES[service], start or 0
         options.state = None if state is None else os.fsencode(state)
         options.max_peers, options.flags = in_range(max_peers, 32, "max_peers"), in_range(flags, 32, "flags")
         self.node, self.params, error = node, params, _Error()
         self._handle: int | None = _waits.dt_udp_open(options, error)
         self._event: _Event | None = None
         if not self._handle:
-            self._refuse(error)
-
-    @staticmethod
-    def _refuse(error: _Error) -> None:
-        text = error.text.decode(errors="replace")
-        if error.status == Status.NO_MEMORY:
-            raise OutOfMemory(text)
-        if error.status == Status.INVALID and not error.system_error:
-            raise InvalidArgument(text)
-        if error.status == Status.EXISTS:
-            raise StateError(text)
-        if not error.system_error:
-            raise Stopped(text)
-        raise UdpError(error.system_error, text)
+            refuse(error)
 
     def __enter__(self) -> Udp:
         return self
@@ -259,7 +124,7 @@ class Udp:
         error = _Error()
         number = in_range(node, 32, "node")
         if _waits.dt_udp_set_peer(self._open(), number, host.encode(), str(port).encode(), error):
-            self._refuse(error)
+            refuse(error)
 
     def open_port(self, port: int, kind: PortKind | None = None) -> None:
         """Opens a port: of a service as a caller's or a service's. InvalidArgument: it is open, or has no such kind."""
@@ -365,17 +230,18 @@ def _made(udp: Udp, flow: Flow, payload: bytes, timeout: float) -> int:
 
 def _replied(udp: Udp, token: Token, payload: bytes) -> None:
     octets = octets_of(payload)
-    it = _library.dt_udp_reply(udp._open(), _token(token), octets, len(octets))
+    it = _library.dt_udp_reply(udp._open(), ctypes.byref(_token(token)), octets, len(octets))
     if it.status == Status.FULL:
         raise Full(it.free)
     if it.status == Status.INVALID:
         raise _invalid(f"a reply of {len(octets)} octets", it.invalid)
-    _raise_gone(it.status, token)
+    if it.status == Status.GONE:
+        raise _gone(token)
     _check(it.status)
 
 
 def _forgotten(udp: Udp, token: Token) -> None:
-    _check(_library.dt_udp_forget(udp._open(), _token(token)))
+    _check(_library.dt_udp_forget(udp._open(), ctypes.byref(_token(token))))
 
 
 class Calls:

@@ -89,3 +89,7 @@ class Gone(DeltatError):
 class StateError(DeltatError):
     """A state folder can't be used: another process has it, it is of another node or of other parameters, it was
     closed, or it can't be written. No datagram was sent, and none was passed in."""
+
+
+class UdpError(DeltatError, OSError):
+    """The socket can't be opened, or a system call failed without which its driver can't continue."""

@@ -99,6 +99,7 @@ class AnyNode:
     node of its own, with another number."""
 
     _exports = Exports("dt_node_")
+    _DRIVEN_AS = "node"
 
     def __init__(
         self,
@@ -265,6 +266,14 @@ class AnyNode:
         self._raise(status, is_usable=True)
         self._is_guard_due = False
 
+    @classmethod
+    def _plain(cls) -> type[AnyNode]:
+        """The class whose `receive`, `tick`, `wake` and `datagrams` are the library's."""
+        return AnyNode
+
+    def _was_driven(self) -> None:
+        """Called when a socket has passed datagrams in, and done what was due."""
+
     def _guard_by_default(self, peers: int) -> None:
         """If the program set no guard: the node receives at the ports that have a reader, and on some flows of each
         peer and each node to which there is a route."""
@@ -368,6 +377,13 @@ class Node(AnyNode):
         self._report, self._message = _c.sized(_c.Report), _c.sized(_c.Message)
         self._open(at)
         self._raise(library.dt_node_enable_messages(self._handle, longest))
+
+    @classmethod
+    def _plain(cls) -> type[AnyNode]:
+        return Node
+
+    def _was_driven(self) -> None:
+        self._take_reports()
 
     def tick(self, at: int | None = None) -> None:
         super().tick(at)

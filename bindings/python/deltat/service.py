@@ -32,7 +32,6 @@ from __future__ import annotations
 import asyncio
 import contextlib
 import ctypes
-import functools
 import inspect
 import logging
 import time
@@ -41,14 +40,16 @@ from collections import deque
 from collections.abc import AsyncIterator, Awaitable, Callable, Iterable, Iterator, Mapping, Sequence
 from concurrent.futures import ThreadPoolExecutor
 from dataclasses import dataclass
-from typing import TYPE_CHECKING, NamedTuple
+from typing import TYPE_CHECKING, NamedTuple, NoReturn, Protocol, TypeGuard
 
 from . import _c, clock
 from ._c import Cause, EventKind, InvalidReason, PortKind, Start, Status
 from ._library import library
 from .errors import Declined, Forked, Full, Gone, InvalidArgument, OutOfMemory, Stopped, Unsure
 from .node import AnyNode, Exports
-from .udp import MOST_BUSY, AsyncUdp, Udp
+from ._c_udp import Kind
+from .driven import Driven
+from .udp import AsyncUdp, Udp
 from .values import Flow, Link, Params, flow_from_c, flow_to_c, in_range, octets_of
 
 if TYPE_CHECKING:
@@ -130,6 +131,7 @@ class Service(AnyNode):
     Times are in ms; left out, they are `deltat.now()`. It has no plain messages."""
 
     _exports = Exports("dt_service_")
+    _DRIVEN_AS = "service"
 
     def __init__(
         self,
@@ -173,6 +175,10 @@ class Service(AnyNode):
         self._kinds[port] = kind
         self._guard_anew()
 
+    @classmethod
+    def _plain(cls) -> type[AnyNode]:
+        return Service
+
     def _read_ports(self) -> Sequence[int]:
         return list(self._kinds)
 
@@ -184,8 +190,12 @@ class Service(AnyNode):
         made = library.dt_service_call(
             self._handle, self._noted(at), flow_to_c(flow), octets, len(octets), timeout_ms
         )
-        if made.status == Status.OK:
-            return int(made.call)
+        if made.status != Status.OK:
+            self._decline(flow, made)
+        return int(made.call)
+
+    def _decline(self, flow: Flow, made: _c.CallResult) -> NoReturn:
+        """Raises why a call wasn't made."""
         if made.status == Status.INVALID:
             raise _invalid(f"a call on {flow}", made.invalid)
         self._raise(made.status)
@@ -197,18 +207,24 @@ class Service(AnyNode):
         Stopped. OutOfMemory: the node is stopped, and the reply may have been sent."""
         octets = octets_of(payload)
         it = library.dt_service_reply(self._handle, self._noted(at), _token(token), octets, len(octets))
+        if it.status != Status.OK:
+            self._refuse_reply(token, it)
+
+    def _refuse_reply(self, token: Token, it: _c.ReplyResult) -> NoReturn:
+        """Raises why a reply wasn't sent."""
         if it.status == Status.FULL:
             raise Full(it.free)
         if it.status == Status.INVALID:
             raise _invalid(f"a reply to call {token.call} on {token.flow}", it.invalid)
         self._raise(it.status)
-        _raise_gone(it.status, token)
+        raise _gone(token)
 
     def forget(self, token: Token, at: int | None = None) -> None:
         """Closes a request without a reply: its caller becomes unsure. Raises Gone, OutOfMemory or Stopped."""
         status = library.dt_service_forget(self._handle, self._noted(at), _token(token))
         self._raise(status)
-        _raise_gone(status, token)
+        if status == Status.GONE:
+            raise _gone(token)
 
     def set_life(self, life: int) -> None:
         """Numbers calls from now on in another life, which this node number never had. Raises InvalidArgument if it is
@@ -259,9 +275,8 @@ def _invalid(what: str, invalid: int) -> InvalidArgument:
     return InvalidArgument(f"{what}: {_INVALID[reason]}", reason=reason)
 
 
-def _raise_gone(status: int, token: Token) -> None:
-    if status == Status.GONE:
-        raise Gone(f"call {token.call} on {token.flow} has a reply, was forgotten, or is of an earlier life")
+def _gone(token: Token) -> Gone:
+    return Gone(f"call {token.call} on {token.flow} has a reply, was forgotten, or is of an earlier life")
 
 
 def _token(token: Token) -> _c.Token:
@@ -284,6 +299,44 @@ class _Line:
         self.wake = wake
 
 
+class _Ends(Protocol):
+    """Who waits for the end of a call: a future of asyncio is one."""
+
+    def done(self) -> bool:
+        """Whether nobody waits any more."""
+
+    def set_result(self, answer: bytes, /) -> None: ...
+
+    def set_exception(self, why: Unsure, /) -> None: ...
+
+
+class _End:
+    """The end of a call, for a plain program."""
+
+    def __init__(self) -> None:
+        self.answer: bytes | None = None
+        self.why: Unsure | None = None
+
+    def done(self) -> bool:
+        return self.answer is not None or self.why is not None
+
+    def set_result(self, answer: bytes) -> None:
+        self.answer = answer
+
+    def set_exception(self, why: Unsure) -> None:
+        self.why = why
+
+    def result(self) -> bytes:
+        if self.why:
+            raise self.why
+        assert self.answer is not None
+        return self.answer
+
+
+_made = tuple.__new__
+_ANSWERED, _REQUEST, _UNSURE = int(Kind.ANSWERED), int(Kind.REQUEST), int(Kind.UNSURE)
+
+
 class _Desk:
     """Takes the events of a service: the end of each call goes to who waits for it, each request into the line of who
     serves its port. A node has one, however many `Calls` there are over its socket."""
@@ -291,12 +344,11 @@ class _Desk:
     def __init__(self, node: Service) -> None:
         # (the node has the desk)
         self._node = weakref.ref(node)
-        self.ends: dict[int, Callable[[Answered | UnsureCall], None]] = {}
+        self.ends: dict[int, _Ends] = {}
         # the lines of ports that are served, the requests for other ports, and the lines that are waited for
         self.lines: weakref.WeakValueDictionary[int, _Line] = weakref.WeakValueDictionary()
         self.others: deque[Request] = deque()
         self.waiting: list[_Line] = []
-        self._is_attending = False
         # the flows of requests of which a reply was given up: one entry a flow
         self.uncertain: set[Flow] = set()
 
@@ -308,19 +360,6 @@ class _Desk:
         for port in ports:
             self.claim(port, line)
         return line
-
-    def attend(self, udp: AsyncUdp) -> None:
-        """From now on takes the events after each turn of a socket, and ends what waits when there are no more
-        turns."""
-        if not self._is_attending:
-            self._is_attending = True
-            udp._takers.append(functools.partial(self._attend, udp))
-
-    def _attend(self, udp: AsyncUdp) -> None:
-        if not udp.udp.is_closed:
-            self.take()
-        if udp._failure:
-            self.close()
 
     def claim(self, port: int, line: _Line) -> None:
         """From now on requests for a port wait in this line, and those that arrived before. Raises InvalidArgument if
@@ -336,30 +375,50 @@ class _Desk:
         """Returns the first request that waits in a line, or else one for a port that nobody serves."""
         return line.requests.popleft() if line.requests else self.others.popleft() if self.others else None
 
-    def take(self) -> bool:
-        """Takes the events that wait. Returns whether there was one."""
-        node, is_some = self._node(), False
-        for it in node.events() if node else ():
-            is_some = True
-            if isinstance(it, ReplyUncertain):
-                self.uncertain.add(it.flow)
+    def turn(self, driven: Driven, wait_ms: int) -> None:
+        """Has the driver take a turn, and passes on the events that it took. Raises OutOfMemory or Stopped, after
+        that."""
+        status = driven.turn(wait_ms)
+        if driven.count:
+            self._pass_on(driven)
+        if status:
+            driven.check(status)
+
+    def _pass_on(self, driven: Driven) -> None:
+        ends, (items, octets) = self.ends, driven.events()
+        for call, at, size, source, target, source_port, target_port, kind, cause in items:
+            if kind == _ANSWERED or kind == _UNSURE:
+                end = ends.pop(call, None)
+                if end is None or end.done():
+                    continue
+                if kind == _ANSWERED:
+                    end.set_result(octets[at : at + size])
+                else:
+                    end.set_exception(Unsure(Cause(cause)))
                 continue
-            if not isinstance(it, Request):
-                end = self.ends.pop(it.call, None)
-                if end:
-                    end(it)
-                continue
-            line = self.lines.get(it.token.flow.target_port)
-            (line.requests if line else self.others).append(it)
-            for waiting in (line,) if line else self.waiting:
-                waiting.wake()
-        return is_some
+            flow = _made(Flow, (source, source_port, target, target_port))
+            if kind == _REQUEST:
+                self._ask(_made(Request, (_made(Token, (flow, call)), octets[at : at + size])))
+            else:
+                self.uncertain.add(flow)
+
+    def _ask(self, request: Request) -> None:
+        """Puts a request into the line of its port."""
+        line = self.lines.get(request.token.flow.target_port)
+        if line is not None:
+            line.requests.append(request)
+            line.wake()
+            return
+        self.others.append(request)
+        for waiting in self.waiting:
+            waiting.wake()
 
     def close(self) -> None:
         """Ends each call that waits as unsure, and wakes all who wait for requests."""
         while self.ends:
-            number, end = self.ends.popitem()
-            end(UnsureCall(number, Cause.STOPPED))
+            _, end = self.ends.popitem()
+            if not end.done():
+                end.set_exception(Unsure(Cause.STOPPED))
         for line in self.waiting:
             line.wake()
 
@@ -391,68 +450,65 @@ class Calls:
         """The flows of requests of which a reply was given up, of all `Calls` over this socket. The program removes
         those that it has handled."""
         self._functions: dict[int, Serves] = {}
+        udp._attend(self._desk)
 
     def call(self, flow: Flow, payload: bytes, timeout: float = 5.0) -> bytes:
         """Makes a call, and returns its answer, within `timeout` seconds. Raises Unsure; Declined, InvalidArgument or
         Stopped if it wasn't made; OutOfMemory if the node ran out of memory in it: take the call as unsure."""
-        ended: list[Answered | UnsureCall] = []
-        with self.udp._lock:
-            at = clock.now()
-            try:
-                number = self.node.call(flow, payload, _ms(timeout), at=at)
-                self._desk.ends[number] = ended.append
-            finally:
-                self.udp.flush(at)
+        end, udp = _End(), self.udp
+        udp._enter()
+        with udp._lock:
+            number = _call(udp, flow, payload, timeout)
+            self._desk.ends[number] = end
         try:
-            while not ended:
-                self._poll(None)
+            while not end.done():
+                udp._turn(None)
         except (OutOfMemory, Stopped):
-            self._take()
-            if not ended:
+            if not end.done():
                 raise Unsure(Cause.STOPPED) from None
         finally:
             self._desk.ends.pop(number, None)
-        return _answer(ended[0])
+        return end.result()
 
     def requests(self, seconds: float | None = None) -> Iterator[Request]:
         """Returns the requests that arrive, until none did for this many seconds (None: until the socket is closed).
         Between two of them the node waits for the program: do work that takes long in `with udp.background()`."""
+        udp = self.udp
         while True:
             end = None if seconds is None else time.monotonic() + seconds
-            if self.udp.is_closed:
+            if udp.is_closed:
                 self.node.wake  # Forked, in a child
                 return
-            if clock.now() - self.udp._looked_at > MOST_BUSY:
-                # (many requests may wait, and each may take its time: the node's work is done between them)
-                self._look()
             while (request := self._desk.next_request(self._line)) is None:
                 left = None if end is None else end - time.monotonic()
                 if left is not None and left <= 0:
                     return
                 try:
-                    self._poll(left)
+                    udp._turn(left)
                 except Stopped as why:
-                    if isinstance(why, Forked) or not self.udp.is_closed:
+                    if isinstance(why, Forked) or not udp.is_closed:
                         raise
                     return
             yield request
+            # (many requests may wait, and each may take its time: the node's work is done between them)
+            udp.flush(clock.now())
 
     def reply(self, token: Token, payload: bytes, seconds: float = 60.0) -> None:
         """Replies, as soon as there is room, within this many seconds. Raises Gone, Full or InvalidArgument; TypeError
         if it isn't bytes."""
-        end = time.monotonic() + seconds
+        end, udp = time.monotonic() + seconds, self.udp
+        udp._enter()
         while True:
-            with self.udp._lock:
-                at = clock.now()
+            with udp._lock:
                 try:
-                    self.node.reply(token, payload, at)
+                    _reply(udp, token, payload)
                     return
                 except Full:
                     if time.monotonic() >= end:
                         raise
                 finally:
-                    self.udp.flush(at)
-            self._poll(0.05)
+                    udp.flush(clock.now())
+            udp._turn(0.05)
 
     def on(self, port: int) -> Callable[[Serves], Serves]:
         """Decorates the function that serves a port: it returns the reply. If it returns None or raises, or if what it
@@ -485,41 +541,41 @@ class Calls:
 
     def _forget(self, token: Token) -> None:
         """Forgets a request, if the node has it and isn't closed."""
-        with self.udp._lock, contextlib.suppress(Gone, Stopped):
-            at = clock.now()
-            self.node.forget(token, at)
-            self.udp.flush(at)
-
-    def _look(self) -> None:
-        """Receives what arrived, does what is due, and takes the events. Does nothing if the socket is closed."""
-        with contextlib.suppress(Stopped):
-            self.udp.poll(0)
-        self._take()
-
-    def _poll(self, seconds: float | None) -> None:
-        """Takes the events that wait; if there is none, waits for some."""
-        if not self._take():
-            self.udp.poll(seconds)
-            self._take()
-
-    def _take(self) -> bool:
-        with self.udp._lock:
-            return self._desk.take()
+        udp = self.udp
+        with udp._lock, contextlib.suppress(Gone, Stopped):
+            _forget(udp, token)
+            udp.flush(clock.now())
 
 
-def _answer(end: Answered | UnsureCall) -> bytes:
-    if isinstance(end, UnsureCall):
-        raise Unsure(end.cause)
-    return end.answer
+# --- what both kinds of calls do: by the driver, which reads the clock
 
 
-def _ended(future: asyncio.Future[Answered | UnsureCall], end: Answered | UnsureCall) -> None:
-    """Passes the end of a call to who waits for it, if the wait wasn't cancelled."""
-    if not future.done():
-        future.set_result(end)
+def _call(udp: Udp, flow: Flow, payload: bytes, timeout: float) -> int:
+    """Makes a call, and returns its number. Raises what `Service.call` raises."""
+    octets = octets_of(payload)
+    made = udp._driven.call(flow, octets, _ms(timeout))
+    if made.status:
+        _service(udp.node)._decline(flow, made)
+    number: int = made.call
+    return number
 
 
-def _is_coroutine(function: object) -> bool:
+def _reply(udp: Udp, token: Token, payload: bytes) -> None:
+    """Replies. Raises what `Service.reply` raises."""
+    replied = udp._driven.reply(*token, octets_of(payload))
+    if replied.status:
+        _service(udp.node)._refuse_reply(token, replied)
+
+
+def _forget(udp: Udp, token: Token) -> None:
+    """Forgets a request. Raises what `Service.forget` raises."""
+    status = udp._driven.forget(*token)
+    if status == Status.GONE:
+        raise _gone(token)
+    udp._driven.check(status)
+
+
+def _is_coroutine(function: ServesSometime) -> TypeGuard[Callable[[Request], Awaitable[bytes | None]]]:
     """Returns whether a call of it runs nothing before it is awaited."""
     return inspect.iscoroutinefunction(function) or inspect.iscoroutinefunction(getattr(function, "__call__", None))
 
@@ -532,38 +588,58 @@ class AsyncCalls:
         """As `Calls`. `workers`: how many threads run the plain functions that serve ports."""
         self.udp: AsyncUdp = udp
         self.node: Service = _service(udp.node)
+        self._loop = udp._loop
         self._desk = self.node._desk
         self._came = asyncio.Event()
         self._line = self._desk.opened(ports, self._came.set)
         self.uncertain: set[Flow] = self._desk.uncertain
         """As that of `Calls`."""
-        self._functions: dict[int, ServesSometime] = {}
+        self._functions: dict[int, Callable[[Request], Awaitable[bytes | None]]] = {}
         self._tasks: set[asyncio.Task[None]] = set()
         # (its threads begin with the first plain function, and end when this is dropped)
         self._threads = ThreadPoolExecutor(workers, f"deltat node {self.node.number}")
-        self._desk.attend(udp)
+        udp.udp._attend(self._desk)
 
     async def call(self, flow: Flow, payload: bytes, timeout: float = 5.0) -> bytes:
         """Makes a call, and returns its answer, within `timeout` seconds. Raises Unsure; Declined, InvalidArgument or
         Stopped if it wasn't made; OutOfMemory if the node ran out of memory in it, or before: take the call as unsure.
         If the wait is cancelled the call continues, and its end is dropped."""
-        end: asyncio.Future[Answered | UnsureCall] = asyncio.get_running_loop().create_future()
-        self.udp._check()
-        at = clock.now()
+        udp = self.udp
+        if udp._failure:
+            udp._check()
+        end: asyncio.Future[bytes] = self._loop.create_future()
         try:
-            number = self.node.call(flow, payload, _ms(timeout), at=at)
-            self._desk.ends[number] = functools.partial(_ended, end)
+            self._desk.ends[_call(udp.udp, flow, payload, timeout)] = end
         except OutOfMemory as why:
-            self.udp._fail(why)
+            udp._fail(why)
             raise
         finally:
-            self.udp._left(at)
-        return _answer(await end)
+            udp._soon()
+        return await end
 
     async def reply(self, token: Token, payload: bytes) -> None:
         """Replies, as soon as there is room. Raises Gone, InvalidArgument, OutOfMemory or Stopped; TypeError if it
         isn't bytes."""
-        await self.udp._when_room(token.flow.reversed(), lambda at: self.node.reply(token, payload, at))
+        udp, flow = self.udp, token.flow
+        is_first = flow.source not in udp._lines or flow.reversed() not in udp._lines[flow.source]
+        if is_first and self._has_replied(token, payload):
+            return
+        await udp._when_room(flow.reversed(), lambda at: _reply(udp.udp, token, payload))
+
+    def _has_replied(self, token: Token, payload: bytes) -> bool:
+        """Replies if there is room. Returns whether there was."""
+        udp = self.udp
+        udp._check()
+        try:
+            _reply(udp.udp, token, payload)
+        except Full:
+            return False
+        except OutOfMemory as why:
+            udp._fail(why)
+            raise
+        finally:
+            udp._soon()
+        return True
 
     async def requests(self) -> AsyncIterator[Request]:
         """Returns the requests that arrive, until the socket is closed. Raises OutOfMemory."""
@@ -588,22 +664,34 @@ class AsyncCalls:
 
         def serves(function: ServesSometime) -> ServesSometime:
             self._desk.claim(port, self._line)
-            self._functions[port] = function
+            self._functions[port] = self._awaited(function)
             return function
 
         return serves
 
+    def _awaited(self, function: ServesSometime) -> Callable[[Request], Awaitable[bytes | None]]:
+        """The function as a coroutine's."""
+        if _is_coroutine(function):
+            return function
+
+        async def in_thread(request: Request) -> bytes | None:
+            result = await self._loop.run_in_executor(self._threads, function, request)
+            return await result if isinstance(result, Awaitable) else result
+
+        return in_thread
+
     async def run(self) -> None:
         """Serves, until it is cancelled or the socket is closed."""
         async for request in self.requests():
-            task = asyncio.get_running_loop().create_task(self._serve(request))
+            task = self._loop.create_task(self._serve(request))
             self._tasks.add(task)
             task.add_done_callback(self._tasks.discard)
 
     async def _serve(self, request: Request) -> None:
         token, is_replied = request.token, False
         try:
-            reply = await self._served(request)
+            function = self._functions.get(token.flow.target_port)
+            reply = await function(request) if function else None
             if reply is not None:
                 await self.reply(token, reply)
                 is_replied = True
@@ -620,19 +708,8 @@ class AsyncCalls:
             if not is_replied:
                 self._forget(token)
 
-    async def _served(self, request: Request) -> bytes | None:
-        """Returns what the function of a request's port returns."""
-        function = self._functions.get(request.token.flow.target_port)
-        if function is None:
-            return None
-        result: bytes | None | Awaitable[bytes | None]
-        if _is_coroutine(function):
-            result = function(request)
-        else:
-            result = await asyncio.get_running_loop().run_in_executor(self._threads, function, request)
-        return await result if isinstance(result, Awaitable) else result
-
     def _forget(self, token: Token) -> None:
         """Forgets a request, if the node has it and isn't closed."""
         with contextlib.suppress(Gone, Stopped, OutOfMemory):
-            self.udp._does(lambda at: self.node.forget(token, at))
+            self.udp._does(lambda at: _forget(self.udp.udp, token))
+            self.udp._soon()

@@ -30,6 +30,7 @@ from pathlib import Path
 
 from . import clock
 from ._c import Start
+from ._c_udp import Keeper
 from .errors import InvalidArgument, StateError
 from .values import PARAMETERS, Params, in_range
 
@@ -214,6 +215,8 @@ class State:
         self._ended: int | None = None
         self._opened_at: int | None = None
         self._quiet_until = 0
+        # the same three, where the driver of a socket reads and writes them
+        self._keeper = Keeper()
         self._unusable = ""
         try:
             self._open(again, changed)
@@ -370,6 +373,7 @@ class State:
             # so a start that is killed in its silence doesn't have the next one begin it anew
             self._promise(now)
         self._quiet_until = self._opened_at + self.params.quiet_ms if self.start is Start.AGAIN else 0
+        self._keeper.from_ = self._quiet_until
         return self._opened_at
 
     def silence(self, now: int | None = None) -> int:
@@ -403,7 +407,7 @@ class State:
             os.ftruncate(self._files[2], len(octets))
         except OSError as why:
             raise StateError(f"{self.folder}/last can't be written ({why}); nothing was sent") from why
-        self._until = until
+        self._until = self._keeper.until = until
 
     def _test(self) -> None:
         if self._unusable:
@@ -420,8 +424,9 @@ class State:
         if self._unusable:
             return
         try:
-            if self._noted >= 0 and os.getpid() == self._pid:
-                self._promise(self._noted)
+            noted = max(self._noted, self._keeper.noted or -1)
+            if noted >= 0 and os.getpid() == self._pid:
+                self._promise(noted)
         finally:
             self._end("the state is closed")
 
@@ -432,6 +437,7 @@ class State:
     def _end(self, why: str) -> None:
         self._unusable = why
         self._until, self._quiet_until = -1, 0
+        self._keeper.until = self._keeper.from_ = 0
         self._finalizer()
 
 
