@@ -134,10 +134,9 @@ class Contest:
             self.follow(packet, answer)
 
     def follow(self, packet: Packet, answer: Answer) -> None:
-        """What the answer makes happen. A packet that left a while ago, as a tick showed only now, arrives now at the
-        earliest."""
+        """What the answer makes happen."""
         self.left[packet.number] = len(answer.arrivals)
-        moments = [max(self.lane.now, packet.put + it) for it in answer.arrivals]
+        moments = [packet.put + it for it in answer.arrivals]
         for moment in moments:
             self.at(moment, partial(self.arrive, packet))
         if not moments:
@@ -155,9 +154,9 @@ class Contest:
             self.lane.lose(packet)
 
     def step(self, moment: int) -> None:
-        """Time passes up to a moment, in such steps that each packet is answered for soon after it left."""
+        """Time passes up to a moment, or to what the answers for packets make happen before it."""
         while self.lane.now < moment and not self.events_before(moment):
-            self.lane.advance(min(moment, self.lane.now + 1_000))
+            self.lane.advance(moment)
             self.ask()
 
     def events_before(self, moment: int) -> bool:

@@ -104,7 +104,8 @@ class Lane(ABC):
 
     @abstractmethod
     def advance(self, moment: int) -> None:
-        """Time passes up to a moment, and the nodes that are running do what is due."""
+        """Time passes up to a moment, or to the first at which a packet leaves. The nodes that are running do what is
+        due."""
 
     @abstractmethod
     def forget(self, side: Side) -> None:

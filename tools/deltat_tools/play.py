@@ -133,8 +133,9 @@ class Hands:
         """Time passes: delayed packets arrive at their moments, and old ones are gone."""
         while True:
             due = min((it.due for it in self.items if it.status == "delayed" and it.due <= moment), default=moment)
-            self.lane.advance(due)
-            self.take()
+            while self.lane.now < due:
+                self.lane.advance(due)
+                self.take()
             for item in [it for it in self.items if self.end_of(it) < due]:
                 self.drop(item, "gone", self.end_of(item))
             late = next((it for it in self.items if it.status == "delayed" and it.due <= due), None)

@@ -38,8 +38,8 @@ def default_program() -> str:
 def run(program: str, word: str, text: str) -> str:
     """What the program writes. A log with a flaw has its verdict, and a refused schedule its fault."""
     try:
-        ran = subprocess.run([program, word], input=text.encode(), capture_output=True, check=False, timeout=60)
-    except (OSError, subprocess.TimeoutExpired) as why:
+        ran = subprocess.run([program, word], input=text.encode(), capture_output=True, check=False)
+    except OSError as why:
         raise Broken(
             f"{program} can't be run: {why}; build it (./build), install the package, or give another --program"
         ) from None
@@ -64,7 +64,7 @@ class Replayed(Lane):
         # each line of the schedule after `go` but `pass`, with its moment
         self.events: list[tuple[int, str]] = []
         self.log = ""
-        self.lines_read = 0
+        self.followed = 0
         # orders that weren't sent yet, and by their first numbers those that were; orders that wait for a fate
         self.queued: list[int] = []
         self.sent: dict[str, int] = {}
@@ -98,17 +98,26 @@ class Replayed(Lane):
         return self.replay()
 
     def replay(self) -> list[list[str]]:
-        """Replays the schedule, and follows the lines of the log that are new."""
+        """Replays the schedule, and follows what is new in the log."""
+        new = self.unread()
+        self.follow_lines(new)
+        return new
+
+    def unread(self) -> list[list[str]]:
+        """Replays the schedule, and returns the lines of the log that weren't followed yet."""
         self.log = run(self.program, "replay", self.schedule())
         lines = [line.split(" ") for line in self.log.splitlines() if not line.startswith(("flow ", "end "))]
-        new, self.lines_read = lines[self.lines_read :], len(lines)
+        return lines[self.followed :]
+
+    def follow_lines(self, lines: list[list[str]]) -> None:
+        """Does what lines of the log mean, each at its moment."""
+        self.followed += len(lines)
         now = self.now
-        for words in new:
+        for words in lines:
             self.now = int(words[0])
             if words[1] != "lost":
                 self.follow(Side(int(words[1])), words[2:])
         self.now = now
-        return new
 
     def verdict(self) -> str:
         """What `deltat audit` says of the log."""
@@ -221,9 +230,12 @@ class Replayed(Lane):
         self.now = moment
         if not stops or not ticks:
             return
-        new = self.replay()
-        due = {(int(words[0]), f"tick {words[1]}") for words in new}
+        lines = self.unread()
+        self.now = next((int(words[0]) for words in lines if words[2] == "put"), moment)
+        lines = [words for words in lines if int(words[0]) <= self.now]
+        due = {(int(words[0]), f"tick {words[1]}") for words in lines}
         self.events[kept:] = [it for it in self.events[kept:] if it in due]
+        self.follow_lines(lines)
 
     def lose(self, packet: Packet) -> None:
         if packet.number not in self.lost:

@@ -88,13 +88,15 @@ class Http(Lane):
             attempt = min(self.attempts.values(), key=lambda it: it.due)
             if attempt.due > moment:
                 break
-            self.now = attempt.due
+            self.now, before = attempt.due, len(self.packets)
             if attempt.resend == self.now and attempt.deadline > self.now:
                 self.request(attempt)
             elif attempt.deadline == self.now:
                 self.fail(attempt)
             else:
                 self.connect(attempt)
+            if len(self.packets) > before:
+                return
         self.now = moment
 
     def fail(self, attempt: Attempt) -> None:
@@ -209,6 +211,7 @@ class Coap(Lane):
             exchange.resends, exchange.gap = exchange.resends + 1, 2 * exchange.gap
             exchange.due = self.now + exchange.gap
             self.message(Side.DISPENSER, f"CON {identifier}", exchange.order, identifier)
+            return
         self.now = moment
 
     def receive(self, packet: Packet) -> None:
