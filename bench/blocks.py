@@ -58,7 +58,12 @@ def rates(of_4: tuple[int, int, int], of_64: tuple[int, int, int]) -> dict[tuple
 
 
 PATHS = {
-    "loopback": Path("loopback", 0, ("--delay", "20", "--round-trip", "1", "--mtu", "9000"), rates((8000, 20000, 20000), (2000, 3000, 3000))),
+    "loopback": Path(
+        "loopback",
+        0,
+        ("--delay", "20", "--round-trip", "1", "--mtu", "9000"),
+        rates((8000, 20000, 20000), (2000, 3000, 3000)),
+    ),
     "1": Path("1 ms", 1, ("--delay", "20", "--round-trip", "2"), rates((300, 2000, 6000), (200, 1000, 1500))),
     "20": Path("20 ms", 20, ("--delay", "60", "--round-trip", "40"), rates((24, 180, 700), (20, 150, 400))),
 }
@@ -79,9 +84,22 @@ class Result:
 
 
 def fio(uri: str, job: Job, blocks: int, folder: pathlib.Path) -> Result:
-    words = ["fio", "--name=j", "--ioengine=nbd", f"--uri={uri}", "--rw=randwrite", f"--bs={job.size}k", f"--iodepth={job.depth}",
-             f"--size={blocks * job.size}k", "--randrepeat=0", "--verify=crc32c", "--verify_fatal=0", "--do_verify=1", "--end_fsync=1",
-             "--output-format=json"]
+    words = [
+        "fio",
+        "--name=j",
+        "--ioengine=nbd",
+        f"--uri={uri}",
+        "--rw=randwrite",
+        f"--bs={job.size}k",
+        f"--iodepth={job.depth}",
+        f"--size={blocks * job.size}k",
+        "--randrepeat=0",
+        "--verify=crc32c",
+        "--verify_fatal=0",
+        "--do_verify=1",
+        "--end_fsync=1",
+        "--output-format=json",
+    ]
     try:
         done = subprocess.run(words, capture_output=True, text=True, timeout=LIMIT, cwd=folder, check=False)
         found = json.loads(done.stdout[done.stdout.index("{") :])["jobs"][0]
@@ -108,8 +126,10 @@ def wait_for(path: pathlib.Path) -> None:
 
 def server_words(path: Path, folder: pathlib.Path) -> list[list[str]]:
     disks = [folder / f"{it}.disk" for it in WAYS]
-    return [["nbdkit", "-f", "-i", path.host, "-p", TCP_PORT, "file", str(disks[2])],
-            [str(folder / "server"), str(disks[0]), str(folder / "state"), "--host", path.host, *path.network]]
+    return [
+        ["nbdkit", "-f", "-i", path.host, "-p", TCP_PORT, "file", str(disks[2])],
+        [str(folder / "server"), str(disks[0]), str(folder / "state"), "--host", path.host, *path.network],
+    ]
 
 
 def set_queue(path: Path) -> None:
@@ -131,8 +151,11 @@ def measure(path: Path, folder: pathlib.Path, given: argparse.Namespace) -> None
     gateway = [str(folder / "gateway"), f"{path.host}:{CALLS_PORT}", str(folder / "calls.sock"), *path.network]
     proxy = ["nbdkit", "-f", "-U", str(folder / "proxy.sock"), "nbd", f"hostname={path.host}", f"port={TCP_PORT}"]
     running = [subprocess.Popen(it, stderr=(folder / f"log-{i}").open("wb")) for i, it in enumerate((gateway, proxy))]
-    uris = {"calls": f"nbd+unix:///?socket={folder}/calls.sock", "proxy": f"nbd+unix:///?socket={folder}/proxy.sock",
-            "TCP": f"nbd://{path.host}:{TCP_PORT}"}
+    uris = {
+        "calls": f"nbd+unix:///?socket={folder}/calls.sock",
+        "proxy": f"nbd+unix:///?socket={folder}/proxy.sock",
+        "TCP": f"nbd://{path.host}:{TCP_PORT}",
+    }
     found = []
     try:
         wait_for(folder / "calls.sock")
@@ -164,7 +187,9 @@ def show(path: Path, loss: float, given: argparse.Namespace, folder: pathlib.Pat
         for depth in given.depths:
             calls, proxy, tcp = (best(found, size, depth, way) for way in WAYS)
             cells = "".join(f"{it.writes:8.0f} {it.reads:7.0f} {it.p99_ms:6.1f}" for it in (calls, proxy, tcp))
-            ratios = "".join(f"{calls.writes / max(it.writes, 1):7.2f} {calls.reads / max(it.reads, 1):5.2f}" for it in (proxy, tcp))
+            ratios = "".join(
+                f"{calls.writes / max(it.writes, 1):7.2f} {calls.reads / max(it.reads, 1):5.2f}" for it in (proxy, tcp)
+            )
             print(f"{path.name:>8} {loss:3.0f} {size:3}k {depth:3}{cells}{ratios}", flush=True)
     log = (folder / "log-0").read_text(errors="replace").strip().splitlines()
     print(f"         {log[-1] if log else ''}", flush=True)

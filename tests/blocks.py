@@ -1,5 +1,6 @@
 #!/usr/bin/env python3
-"""The disk of examples/blocks, with real clients of NBD: Debian's nbdkit, libnbd-bin, python3-libnbd, qemu-utils, fio and e2fsprogs.
+"""The disk of examples/blocks, with real clients of NBD: Debian's nbdkit, libnbd-bin, python3-libnbd, qemu-utils, fio
+and e2fsprogs.
 
     tests/blocks.py [--partitions N] [CASE ...]
 
@@ -9,8 +10,8 @@ The server and the gateway are built with the address and undefined-behaviour sa
 - strangers: clients that send what isn't NBD, or half of a request;
 - kills: the server is killed and started again three times while fio writes and verifies; no error;
 - cache: a flush over a server whose machine was started again meanwhile is EIO, once for each connection;
-- left: a client ends with writes under way, at losses, or while the server is stopped; the next one at the same gateway writes
-  over them, and none of them lands after that;
+- left: a client ends with writes under way, at losses, or while the server is stopped; the next one at the same gateway
+  writes over them, and none of them lands after that;
 - fence: a gateway is stopped, another one takes over, the first one goes on: each of its writes is refused;
 - ext4: a file system is made and filled at losses, with kills of the server; a gateway is killed in the middle of
   that and the next one makes another file system over it; `e2fsck -fn` after each;
@@ -44,8 +45,16 @@ MIB = 1 << 20
 SANITIZED = "-O1 -g -fsanitize=address,undefined -fno-sanitize-recover=undefined -fno-omit-frame-pointer"
 # a network that this machine keeps, also if it is busy
 NETWORK = ["--delay", "60", "--round-trip", "4"]
-WORDS = {"nbdkit": "nbdkit", "nbdinfo": "libnbd-bin", "nbdfuse": "libnbd-bin", "qemu-img": "qemu-utils", "fio": "fio",
-         "mke2fs": "e2fsprogs", "cc": "gcc", "make": "make"}
+WORDS = {
+    "nbdkit": "nbdkit",
+    "nbdinfo": "libnbd-bin",
+    "nbdfuse": "libnbd-bin",
+    "qemu-img": "qemu-utils",
+    "fio": "fio",
+    "mke2fs": "e2fsprogs",
+    "cc": "gcc",
+    "make": "make",
+}
 READ, WRITE, FLUSH = 0, 1, 3
 EPERM, EIO = 1, 5
 
@@ -157,7 +166,9 @@ class World:
             it.wait()
         if self.lossy:
             self.lossy.stop()
-        wrong = [line for line in self.logs().splitlines() if "ERROR" in line or "runtime error" in line or "blocks:" in line]
+        wrong = [
+            line for line in self.logs().splitlines() if "ERROR" in line or "runtime error" in line or "blocks:" in line
+        ]
         return wrong + [f"ended with {it.returncode}" for it in running if it.returncode not in (0, -signal.SIGKILL)]
 
 
@@ -248,10 +259,44 @@ def clients(folder: pathlib.Path) -> str:
         ran("qemu-io", "-c", "write -P 0x5a 1M 8M", "-c", "write -P 0x11 40M 64k", f"{it.folder}/q")
         ran("qemu-img", "convert", "-n", "-f", "qcow2", "-O", "raw", f"{it.folder}/q", uri)
         ran("qemu-img", "compare", "-f", "qcow2", "-F", "raw", f"{it.folder}/q", uri)
-        text = ran("qemu-io", "-f", "raw", "-c", "write -P 0xaa 0 3M", "-c", "write -P 0xbb 4k 60k", "-c", "write -z 64k 64k", "-c", "flush",
-                   "-c", "discard 512k 64k", "-c", "write -z -u 1M 1M", "-c", "write -f -P 0x77 3 5000", "-c", "read -P 0x77 3 5000",
-                   "-c", "read -P 0xbb 8k 56k", "-c", "read -P 0 64k 64k", "-c", "read -P 0 1M 1M", "-c", "read -P 0xaa 600k 100k",
-                   "-c", "aio_write -P 1 4M 2M", "-c", "aio_write -P 2 6M 2M", "-c", "aio_flush", "-c", "read -P 2 6M 2M", uri)
+        text = ran(
+            "qemu-io",
+            "-f",
+            "raw",
+            "-c",
+            "write -P 0xaa 0 3M",
+            "-c",
+            "write -P 0xbb 4k 60k",
+            "-c",
+            "write -z 64k 64k",
+            "-c",
+            "flush",
+            "-c",
+            "discard 512k 64k",
+            "-c",
+            "write -z -u 1M 1M",
+            "-c",
+            "write -f -P 0x77 3 5000",
+            "-c",
+            "read -P 0x77 3 5000",
+            "-c",
+            "read -P 0xbb 8k 56k",
+            "-c",
+            "read -P 0 64k 64k",
+            "-c",
+            "read -P 0 1M 1M",
+            "-c",
+            "read -P 0xaa 600k 100k",
+            "-c",
+            "aio_write -P 1 4M 2M",
+            "-c",
+            "aio_write -P 2 6M 2M",
+            "-c",
+            "aio_flush",
+            "-c",
+            "read -P 2 6M 2M",
+            uri,
+        )
         if "verification failed" in text or "rror" in text:
             return text
         return ""
@@ -268,21 +313,48 @@ def strangers(folder: pathlib.Path) -> str:
             with contextlib.suppress(OSError):
                 if turn % 3:
                     client.ask(WRITE, 0, bytes(4096))
-                    client.it.sendall(struct.pack(">IHHQQI", 0x25609513, 0, WRITE, 9, 0, 1 << 20) + bytes(chance.randrange(1 << 19)))
+                    client.it.sendall(
+                        struct.pack(">IHHQQI", 0x25609513, 0, WRITE, 9, 0, 1 << 20) + bytes(chance.randrange(1 << 19))
+                    )
                 client.it.sendall(chance.randbytes(chance.randrange(1, 300)))
             client.close()
         wrong = Client(it.door()).handshake()
-        beyond = [wrong.error_of(WRITE, 64 * MIB - 100, bytes(4096)), wrong.error_of(WRITE, (1 << 64) - 100, bytes(200)), wrong.error_of(99)]
+        beyond = [
+            wrong.error_of(WRITE, 64 * MIB - 100, bytes(4096)),
+            wrong.error_of(WRITE, (1 << 64) - 100, bytes(200)),
+            wrong.error_of(99),
+        ]
         if beyond != [28, 28, 22]:
             return f"errors {beyond}"
         wrong.ask(READ, 64 * MIB, length=1)
-        return "" if wrong.answer()[1] == 22 and wrong.error_of(WRITE, 0, b"x" * 512) == 0 else "no answer after an error"
+        return (
+            "" if wrong.answer()[1] == 22 and wrong.error_of(WRITE, 0, b"x" * 512) == 0 else "no answer after an error"
+        )
 
 
 def fio(uri: str, size: str, runtime: int) -> "subprocess.Popen[str]":
-    return subprocess.Popen(["fio", "--name=j", "--ioengine=nbd", f"--uri={uri}", "--rw=randwrite", "--bs=4k", "--iodepth=16", f"--size={size}",
-                             "--randrepeat=0", "--verify=crc32c", "--verify_fatal=1", "--end_fsync=1", "--output-format=json", f"--thinktime={runtime}"],
-                            stdout=subprocess.PIPE, stderr=subprocess.STDOUT, text=True, cwd="/tmp")
+    return subprocess.Popen(
+        [
+            "fio",
+            "--name=j",
+            "--ioengine=nbd",
+            f"--uri={uri}",
+            "--rw=randwrite",
+            "--bs=4k",
+            "--iodepth=16",
+            f"--size={size}",
+            "--randrepeat=0",
+            "--verify=crc32c",
+            "--verify_fatal=1",
+            "--end_fsync=1",
+            "--output-format=json",
+            f"--thinktime={runtime}",
+        ],
+        stdout=subprocess.PIPE,
+        stderr=subprocess.STDOUT,
+        text=True,
+        cwd="/tmp",
+    )
 
 
 def kills(folder: pathlib.Path) -> str:
@@ -357,12 +429,16 @@ def fence(folder: pathlib.Path) -> str:
         after = [first.error_of(WRITE, number * 4096, block(3, number)) for number in range(count)]
         it.kill_server()
         it.start_server()
-        after += [first.error_of(WRITE, 0, block(3, 0)), first.error_of(FLUSH), second.error_of(WRITE, 0, block(2, 0)) + EPERM]
+        after += [
+            first.error_of(WRITE, 0, block(3, 0)),
+            first.error_of(FLUSH),
+            second.error_of(WRITE, 0, block(2, 0)) + EPERM,
+        ]
         octets = it.disk.read_bytes()
         stale = [n for n in range(count) if octets[n * 4096 : (n + 1) * 4096] != block(2, n)]
         first.close()
         if errors or stale or set(after) != {EPERM} or not set(refused) <= {0, EPERM}:
-            return f"{errors} errors, stale blocks {stale}, answers {sorted(set(refused))}, after the fence {sorted(set(after))}"
+            return f"{errors} errors, stale blocks {stale}, answers {set(refused)}, after the fence {set(after)}"
         return ""
 
 
@@ -400,8 +476,11 @@ def ext4(folder: pathlib.Path) -> str:
                 return "mke2fs failed"
             ran("e2fsck", "-fn", str(fuse.file))
             # the gateway is killed while another file system is made, and the next gateway makes a third one over it
-            job = subprocess.Popen(["mke2fs", "-q", "-F", "-t", "ext4", "-b", "1024", "-d", str(TOP / "tests"), str(fuse.file)],
-                                   stdout=subprocess.DEVNULL, stderr=subprocess.DEVNULL)
+            job = subprocess.Popen(
+                ["mke2fs", "-q", "-F", "-t", "ext4", "-b", "1024", "-d", str(TOP / "tests"), str(fuse.file)],
+                stdout=subprocess.DEVNULL,
+                stderr=subprocess.DEVNULL,
+            )
             time.sleep(0.3)
             it.kill_gateway()
             job.wait(60)
@@ -425,7 +504,13 @@ def partitions(count: int) -> tuple[str, str]:
     """What is wrong, and what was seen."""
     stale = []
     for _ in range(count):
-        done = subprocess.run([sys.executable, str(BLOCKS / "demo.py"), "--cut", "4", "--watch", "8"], capture_output=True, text=True, timeout=120, check=False)
+        done = subprocess.run(
+            [sys.executable, str(BLOCKS / "demo.py"), "--cut", "4", "--watch", "8"],
+            capture_output=True,
+            text=True,
+            timeout=120,
+            check=False,
+        )
         if done.returncode:
             return (done.stdout + done.stderr)[-600:], ""
         stale.append("STALE" in done.stdout)
@@ -436,12 +521,17 @@ def partitions(count: int) -> tuple[str, str]:
 
 
 def has_namespaces() -> bool:
-    words = ["unshare", "--net", "true"] if os.geteuid() == 0 else ["unshare", "--user", "--map-root-user", "--net", "true"]
+    words = (
+        ["unshare", "--net", "true"] if os.geteuid() == 0 else ["unshare", "--user", "--map-root-user", "--net", "true"]
+    )
     return os.path.exists("/dev/net/tun") and subprocess.run(words, capture_output=True, check=False).returncode == 0
 
 
 def has_libnbd() -> bool:
-    return any(subprocess.run([it, "-c", "import nbd"], capture_output=True, check=False).returncode == 0 for it in (sys.executable, "/usr/bin/python3"))
+    return any(
+        subprocess.run([it, "-c", "import nbd"], capture_output=True, check=False).returncode == 0
+        for it in (sys.executable, "/usr/bin/python3")
+    )
 
 
 def tried(case: Callable[[pathlib.Path], str], folder: pathlib.Path) -> Case:

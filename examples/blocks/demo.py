@@ -14,6 +14,7 @@ a C compiler, make, iproute2, nbdkit and python3-libnbd. Ends with 0 if no stale
 import argparse
 import contextlib
 import dataclasses
+import importlib
 import json
 import os
 import pathlib
@@ -25,6 +26,7 @@ import tempfile
 import threading
 import time
 from collections.abc import Callable, Iterator
+from typing import Any
 
 HERE = pathlib.Path(__file__).resolve().parent
 sys.path.insert(0, str(HERE.parent.parent / "tests"))
@@ -55,10 +57,14 @@ def wait_for(path: pathlib.Path, seconds: float = 30.0) -> None:
 # --- the clients: real ones, by libnbd
 
 
-def opened(uri: str, seconds: float = 20.0):  # type: ignore[no-untyped-def]
-    """A connection; the server may not be ready yet."""
-    import nbd
+def libnbd() -> Any:
+    """The module of python3-libnbd, which has no types."""
+    return importlib.import_module("nbd")
 
+
+def opened(uri: str, seconds: float = 20.0) -> Any:
+    """A connection; the server may not be ready yet."""
+    nbd = libnbd()
     until = time.monotonic() + seconds
     while True:
         try:
@@ -71,10 +77,9 @@ def opened(uri: str, seconds: float = 20.0):  # type: ignore[no-untyped-def]
             time.sleep(0.02)
 
 
-def write_all(handle, version: str) -> None:  # type: ignore[no-untyped-def]
+def write_all(handle: Any, version: str) -> None:
     """Makes a write of each block, all at once, and waits for the answers."""
-    import nbd
-
+    nbd = libnbd()
     for number in range(BLOCKS):
         handle.aio_pwrite(nbd.Buffer.from_bytearray(bytearray(block(version, number))), number * SIZE)
     while handle.aio_in_flight():
@@ -217,7 +222,7 @@ class Cut(wan.Carrier):
         super().accept(side, packet, now)
 
 
-def linked(folder: pathlib.Path, cut: float, watch: float) -> dict[str, dict]:  # type: ignore[type-arg]
+def linked(folder: pathlib.Path, cut: float, watch: float) -> dict[str, dict[str, Any]]:
     """Runs both sides over the link, and returns what was found."""
     words = [sys.executable, __file__]
     sides = [[*words, "server-side", str(folder)], [*words, "client-side", str(folder), str(cut), str(watch)]]
@@ -227,7 +232,8 @@ def linked(folder: pathlib.Path, cut: float, watch: float) -> dict[str, dict]:  
     if outcome.stopped or any(outcome.statuses):
         logs = "".join(it.read_text(errors="replace") for it in folder.glob("*.log"))
         raise SystemExit(f"demo: the clients ended with {outcome.statuses[1]}\n{logs}")
-    return json.loads((folder / "found").read_text())
+    found: dict[str, dict[str, Any]] = json.loads((folder / "found").read_text())
+    return found
 
 
 # --- what was seen
@@ -248,7 +254,7 @@ class Seen:
         return {number: times[0] for number, times in found.items() if times}
 
 
-def seen(way: str, found: dict[str, dict]) -> Seen:  # type: ignore[type-arg]
+def seen(way: str, found: dict[str, dict[str, Any]]) -> Seen:
     moments = found["moments"]
     killed, end = moments["killed"], moments["end"] - moments["killed"]
     changes: list[list[tuple[float, str]]] = [[] for _ in range(BLOCKS)]
@@ -268,8 +274,10 @@ def told(it: Seen, whole: float) -> str:
         return f"{line}; stale blocks: 0 of {BLOCKS}"
     at = min(it.stale.values())
     numbers = ", ".join(str(number) for number in it.stale)
-    return (f"{line}; STALE blocks: {len(it.stale)} of {BLOCKS} ({numbers}): old over new, "
-            f"{at - it.flushed:.1f} s after the flush was answered, {at:.1f} s after the client was killed")
+    return (
+        f"{line}; STALE blocks: {len(it.stale)} of {BLOCKS} ({numbers}): old over new, "
+        f"{at - it.flushed:.1f} s after the flush was answered, {at:.1f} s after the client was killed"
+    )
 
 
 # --- the picture
@@ -282,24 +290,36 @@ def panel(it: Seen, moments: dict[str, float], at_y: int, place: Callable[[float
     height = BLOCKS * ROW
     result = "no stale block" if not it.stale else f"{len(it.stale)} stale block{'s' if len(it.stale) > 1 else ''}"
     title = "a stock NBD server over TCP" if it.way == "TCP" else "examples/blocks over calls"
-    parts = [f'<text x="{LEFT}" y="{at_y - 22}" class="title">{title}: {result}</text>',
-             f'<text x="{LEFT - 8}" y="{at_y + 9}" class="end">block 0</text>',
-             f'<text x="{LEFT - 8}" y="{at_y + height}" class="end">{BLOCKS - 1}</text>']
+    parts = [
+        f'<text x="{LEFT}" y="{at_y - 22}" class="title">{title}: {result}</text>',
+        f'<text x="{LEFT - 8}" y="{at_y + 9}" class="end">block 0</text>',
+        f'<text x="{LEFT - 8}" y="{at_y + height}" class="end">{BLOCKS - 1}</text>',
+    ]
     for number, stretches in enumerate(it.blocks):
         for begin, end, version, is_stale in stretches:
             x, to = place(begin), place(end)
             colour = "#c8102e" if is_stale else COLOURS.get(version, "#000000")
             if to > x:
-                parts.append(f'<rect x="{x:.1f}" y="{at_y + number * ROW}" width="{to - x:.1f}" height="{ROW - 0.5}" fill="{colour}"/>')
-    marks = [("cut", "cut", "end"), ("killed", "client killed", ""), ("whole", "whole", "end"), (f"flushed-{it.way}", "all new, flushed", "")]
+                parts.append(
+                    f'<rect x="{x:.1f}" y="{at_y + number * ROW}" width="{to - x:.1f}" '
+                    f'height="{ROW - 0.5}" fill="{colour}"/>'
+                )
+    marks = [
+        ("cut", "cut", "end"),
+        ("killed", "client killed", ""),
+        ("whole", "whole", "end"),
+        (f"flushed-{it.way}", "all new, flushed", ""),
+    ]
     for name, word, side in marks:
         x = place(moments[name] - moments["killed"])
         parts.append(f'<line x1="{x:.1f}" x2="{x:.1f}" y1="{at_y - 14}" y2="{at_y + height}" class="mark"/>')
         parts.append(f'<text x="{x + (-3 if side else 3):.1f}" y="{at_y - 5}" class="{side}">{word}</text>')
     if it.stale:
         at, last = min(it.stale.values()), max(it.stale)
-        parts.append(f'<text x="{place(at) + 4:.1f}" y="{at_y + min(last + 4, BLOCKS - 1) * ROW}" class="stale">'
-                     f"{len(it.stale)} of {BLOCKS} old again, {at - it.flushed:.1f} s after the flush</text>")
+        parts.append(
+            f'<text x="{place(at) + 4:.1f}" y="{at_y + min(last + 4, BLOCKS - 1) * ROW}" class="stale">'
+            f"{len(it.stale)} of {BLOCKS} old again, {at - it.flushed:.1f} s after the flush</text>"
+        )
     return parts
 
 
@@ -312,18 +332,26 @@ def picture(both: list[Seen], moments: dict[str, float]) -> str:
     def place(at: float) -> float:
         return LEFT + WIDTH * (min(max(at, begin), end) - begin) / (end - begin)
 
-    parts = [f'<svg xmlns="http://www.w3.org/2000/svg" viewBox="0 0 {LEFT + WIDTH + 20} {height}" font-family="sans-serif" font-size="11">',
-             "<style>.title{font-size:14px;font-weight:bold}.end{text-anchor:end}.mark{stroke:#000;stroke-dasharray:3 2}"
-             ".stale{fill:#c8102e;font-weight:bold;paint-order:stroke;stroke:#fff;stroke-width:3px}</style>",
-             f'<rect width="100%" height="100%" fill="#ffffff"/>']
+    parts = [
+        f'<svg xmlns="http://www.w3.org/2000/svg" viewBox="0 0 {LEFT + WIDTH + 20} {height}" '
+        'font-family="sans-serif" font-size="11">',
+        "<style>.title{font-size:14px;font-weight:bold}.end{text-anchor:end}.mark{stroke:#000;stroke-dasharray:3 2}"
+        ".stale{fill:#c8102e;font-weight:bold;paint-order:stroke;stroke:#fff;stroke-width:3px}</style>",
+        f'<rect width="100%" height="100%" fill="#ffffff"/>',
+    ]
     legend = [(COLOURS[FIRST], "as it was"), (COLOURS[NEW], "new"), ("#c8102e", "old of the dead client, over new")]
     for i, (colour, word) in enumerate(legend):
-        parts.append(f'<rect x="{LEFT + 130 * i}" y="10" width="12" height="12" fill="{colour}"/><text x="{LEFT + 130 * i + 17}" y="20">{word}</text>')
+        parts.append(
+            f'<rect x="{LEFT + 130 * i}" y="10" width="12" height="12" fill="{colour}"/>'
+            f'<text x="{LEFT + 130 * i + 17}" y="20">{word}</text>'
+        )
     for i, it in enumerate(both):
         parts += panel(it, moments, TOP + i * (BLOCKS * ROW + GAP), place)
     for second in range(0, int(end) + 1, 5):
         parts.append(f'<text x="{place(second):.1f}" y="{height - 28}" text-anchor="middle">{second} s</text>')
-    parts.append(f'<text x="{LEFT + WIDTH}" y="{height - 10}" class="end">seconds after the client was killed</text></svg>')
+    parts.append(
+        f'<text x="{LEFT + WIDTH}" y="{height - 10}" class="end">seconds after the client was killed</text></svg>'
+    )
     return "\n".join(parts) + "\n"
 
 
@@ -350,14 +378,18 @@ def demonstrate(folder: pathlib.Path, given: argparse.Namespace) -> int:
     python_with_nbd()
     for way in WAYS:
         (folder / f"{way}.disk").write_bytes(bytes(BLOCKS * SIZE))
-    print(f"{DELAY:.0f} ms each way, cut {given.cut:.0f} s: a client with {BLOCKS} writes under way is killed, a second one writes all "
-          f"{BLOCKS} blocks and flushes; then {given.watch:.0f} s of watching", flush=True)
+    print(
+        f"{DELAY:.0f} ms each way, cut {given.cut:.0f} s: a client with {BLOCKS} writes under way is killed, "
+        f"a second one writes all "
+        f"{BLOCKS} blocks and flushes; then {given.watch:.0f} s of watching",
+        flush=True,
+    )
     found = linked(folder, given.cut, given.watch)
     both = [seen(way, found) for way in WAYS]
     moments = found["moments"]
     for it in both:
         print(told(it, moments["whole"] - moments["killed"]))
-    print("the bound over calls: a write lands at most mpl and one turn of the server after its gateway's process is gone:")
+    print("over calls a write lands at most mpl and one step of the server after its gateway's process is gone:")
     print("    " + (folder / "server.log").read_text().splitlines()[0])
     if given.picture:
         given.picture.write_text(picture(both, moments))
@@ -376,7 +408,9 @@ def main() -> int:
     if os.geteuid() != 0:
         os.execvp("unshare", ["unshare", "--user", "--map-root-user", sys.executable, *sys.argv])
     reads = argparse.ArgumentParser(description=__doc__, formatter_class=argparse.RawDescriptionHelpFormatter)
-    reads.add_argument("--cut", type=float, default=8.0, metavar="S", help="from the kill until the network is whole (8)")
+    reads.add_argument(
+        "--cut", type=float, default=8.0, metavar="S", help="from the kill until the network is whole (8)"
+    )
     reads.add_argument("--watch", type=float, default=20.0, metavar="S", help="from the last flush on (20)")
     reads.add_argument("--picture", type=pathlib.Path, metavar="FILE", help="where the picture is written, as SVG")
     given = reads.parse_args()

@@ -10,7 +10,7 @@
 
 /* --- the fence, in the state folder */
 
-/* Moves the fence, in the folder first. Returns 0 or an errno: then it may have moved there, and moves here by the next. */
+/* Moves the fence, in the folder first. Returns 0 or an errno: then it may have moved in the folder only. */
 static uint32_t move_fence(struct disk *disk) {
     uint32_t fence = disk->fence + 1;
     char line[16];
@@ -18,7 +18,8 @@ static uint32_t move_fence(struct disk *disk) {
     int fd = openat(disk->state, "fence.part", O_WRONLY | O_CREAT | O_TRUNC | O_CLOEXEC, 0600);
     bool written = fd >= 0 && write(fd, line, (size_t)len) == len && fsync(fd) == 0;
     if (fd >= 0 && close(fd) != 0) written = false;
-    if (!written || renameat(disk->state, "fence.part", disk->state, "fence") != 0 || fsync(disk->state) != 0) return EIO;
+    written = written && renameat(disk->state, "fence.part", disk->state, "fence") == 0;
+    if (!written || fsync(disk->state) != 0) return EIO;
     disk->fence = fence;
     return 0;
 }

@@ -54,6 +54,10 @@ void flows_add(struct flows *flows, struct demand *demand) {
     }
 }
 
+static uint8_t *data_of(const struct part *part) {
+    return part->demand->data + (part->offset - part->demand->request.offset);
+}
+
 /* How many octets of the window a part takes. */
 static size_t weight(const struct part *part) {
     uint8_t op = part->demand->request.op;
@@ -95,12 +99,11 @@ static struct request asked(const struct flows *flows, const struct flow *flow) 
 }
 
 static void call(struct flows *flows, struct flow *flow) {
-    const struct demand *demand = flow->part->demand;
     struct request it = asked(flows, flow);
     struct dt_flow way = {flows->node, SERVER, flow->port, SERVICE_PORT};
     size_t len = it.op == OP_WRITE ? it.length : 0;
     put_request(flows->octets, &it);
-    if (len) memcpy(flows->octets + HEADER, demand->data + (it.offset - demand->request.offset), len);
+    if (len) memcpy(flows->octets + HEADER, data_of(flow->part), len);
     uint32_t doubled = flow->tries < MOST_DOUBLED ? flow->tries : MOST_DOUBLED;
     struct dt_call_result made =
         dt_udp_call(flows->udp, &way, flows->octets, HEADER + len, flows->timeout_ms << doubled);
@@ -183,7 +186,7 @@ static void note_answer(struct flows *flows, const struct part *part, const stru
     flows->size = answer->size;
     bool is_read = demand->request.op == OP_READ && error == 0;
     if (is_read && event->len - HEADER != part->length) error = EIO;
-    else if (is_read) memcpy(demand->data + (part->offset - demand->request.offset), event->octets + HEADER, part->length);
+    else if (is_read) memcpy(data_of(part), event->octets + HEADER, part->length);
     if (error) demand->error = error;
     if (demand->request.op == OP_HELLO || demand->request.op == OP_TAKE_OVER) flows->generation = answer->generation;
 }

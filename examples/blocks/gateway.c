@@ -125,7 +125,8 @@ static bool wait_and_read(struct gateway *gateway) {
         bool writes = it->out.from < it->out.to;
         fds[i + 3] = (struct pollfd){it->fd, (short)((nbd_listens(it) ? POLLIN : 0) | (writes ? POLLOUT : 0)), 0};
     }
-    if (poll(fds, MAX_CLIENTS + 3, gateway->flows.put_off ? PUT_OFF_MS : -1) < 0 && errno != EINTR) die_of_errno("poll");
+    int wait_ms = gateway->flows.put_off ? PUT_OFF_MS : -1;
+    if (poll(fds, MAX_CLIENTS + 3, wait_ms) < 0 && errno != EINTR) die_of_errno("poll");
     bool one_ended = false; /* (perhaps before the one at the door came) */
     for (int i = 0; i < MAX_CLIENTS; i++) {
         struct nbd *it = &gateway->clients[i];

@@ -30,8 +30,8 @@ void nbd_open(struct nbd *it, int fd, struct flows *flows) {
 }
 
 bool nbd_listens(const struct nbd *it) {
-    bool has_room = it->waiting < MAX_WAITING && it->waiting_octets < MAX_OCTETS && it->out.to - it->out.from < MAX_OCTETS;
-    return !it->leaves && !it->is_gone && has_room;
+    size_t octets = it->waiting_octets + (it->out.to - it->out.from);
+    return !it->leaves && !it->is_gone && it->waiting < MAX_WAITING && octets < MAX_OCTETS;
 }
 
 bool nbd_is_over(const struct nbd *it) {
@@ -123,8 +123,9 @@ static uint32_t nbd_error(uint32_t error) {
 }
 
 static void reply(struct nbd *it, const struct demand *demand) {
-    uint32_t error = nbd_error(demand->error), len = demand->request.op == OP_READ && !error ? demand->request.length : 0;
-    if (demand->request.op == OP_READ && it->structured) {
+    bool is_read = demand->request.op == OP_READ;
+    uint32_t error = nbd_error(demand->error), len = is_read && !error ? demand->request.length : 0;
+    if (is_read && it->structured) {
         octets_add_number(&it->out, STRUCTURED_MAGIC, 4);
         octets_add_number(&it->out, 1, 2);                  /* the only one of this answer */
         octets_add_number(&it->out, error ? 32769 : 1, 2);
