@@ -97,6 +97,8 @@ struct dt_udp_options {
     uint32_t max_peers;             /* peers that may be learnt at one time [0: none is] */
     uint32_t report_kinds;          /* of a node: reports that are events, as bits 1 << kind [none] */
     uint32_t flags;                 /* enum dt_udp_flag */
+    uint32_t max_waiting;           /* octets of calls and replies that wait in the driver while enough is
+                                       under way to their peers [16,777,216] */
 };
 
 /* Why dt_udp_open or dt_udp_set_peer failed. */
@@ -125,7 +127,8 @@ enum dt_udp_event_kind {
                                    DT_NOT_OPEN (a forked child, or a system call that failed:
                                    `system_error`) */
     DT_UDP_EVENT_REPLY_UNCERTAIN = 10, /* `flow`: as DT_EVENT_REPLY_UNCERTAIN of deltat.h */
-    DT_UDP_EVENT_ALARM = 11     /* nothing of `peer` passes any more, as `cause` says */
+    DT_UDP_EVENT_ALARM = 11,    /* nothing of `peer` passes any more, as `cause` says */
+    DT_UDP_EVENT_ROOM = 12      /* after a DT_FULL: there may be room again */
 };
 
 enum dt_udp_alarm { /* `cause` of DT_UDP_EVENT_ALARM: once for each opening of the peer */

@@ -184,12 +184,12 @@ def is_stopped(pid: int) -> bool:
 
 QUICK = {"mpl": 60, "r": 100, "rto": 10, "charge": 44}
 SMALL = {"flows": 8, "depth": 2, "octets": 1000, "seconds": 4}
-DISK = {"mpl": 49, "r": 50, "rto": 5, "charge": 42}
-DEEP: dict[str, float] = {"delay": 1000, "rate": 100, "queue": 40_000_000}
+DISK = {"mpl": 400, "r": 300, "rto": 40, "charge": 44}
+DEEP: dict[str, float] = {"delay": 1000, "rate": 50, "queue": 40_000_000}
 
 
 def disk(flows: int) -> Link:
-    return Link(DEEP, DISK, {"flows": flows, "depth": 512 // flows, "octets": 32768, "seconds": 4}, after=2)
+    return Link(DEEP, DISK, {"flows": flows, "depth": 512 // flows, "octets": 32768, "seconds": 6}, after=2)
 
 
 LINKS = {

@@ -57,8 +57,8 @@ dt_status dt_udp_open_port(dt_udp *u, uint16_t port, uint8_t kind) {
     return DT_OK;
 }
 
-/* --- messages and calls: each is an input of the node at this reading, and what it makes has to leave soon. (What is
- * handed in and isn't acknowledged yet would be kept within a window of the peer here.) */
+/* --- messages and calls: each is an input of the node at this reading, and what it makes has to leave soon. What may
+ * not enter yet, since enough is under way to the peer, waits (governor.c), but for messages, which are refused. */
 
 /* Whether the call can be made, with `*at` as its reading: DT_OK, or the status that it gets. */
 static dt_status begin(dt_udp *u, const void *handle, uint64_t *at) {
@@ -80,10 +80,23 @@ struct dt_send_result dt_udp_send(dt_udp *u, const struct dt_flow *flow, const v
     dt_status status = begin(u, u->core.node, &at);
     if (status != DT_OK) return (struct dt_send_result){.status = status};
     struct iovec payload = payload_of(octets, len);
+    struct peer *peer = dtu_peers_find(&u->peers, flow->target);
+    if (dtu_govern_waits(u, peer, len)) {
+        u->governing.wants_room = true;
+        return (struct dt_send_result){.status = DT_FULL};
+    }
     struct dt_send_result sent = dtu_core_send(&u->core, at, flow, &payload);
     dtu_judge(u);
     dtu_events_collect(u, at);
+    dtu_govern_count(u, peer);
     return sent;
+}
+
+/* Whether the library would take such a call, so that it may wait: what is wrong is said at once. */
+static bool may_wait(const dt_udp *u, const struct dt_flow *flow, size_t len, uint32_t timeout_ms) {
+    bool open = u->ports.open[flow->source_port / 8] >> flow->source_port % 8 & 1;
+    return open && flow->source == u->options.node && flow->target != flow->source && timeout_ms > 0 &&
+           len + 8 <= u->options.params->cap && dtu_clock_ms() >= u->quiet_until;
 }
 
 struct dt_call_result dt_udp_call(dt_udp *u, const struct dt_flow *flow, const void *octets, size_t len,
@@ -92,9 +105,13 @@ struct dt_call_result dt_udp_call(dt_udp *u, const struct dt_flow *flow, const v
     dt_status status = begin(u, u->core.service, &at);
     if (status != DT_OK) return (struct dt_call_result){.status = status};
     struct iovec payload = payload_of(octets, len);
+    struct peer *peer = dtu_peers_find(&u->peers, flow->target);
+    if (may_wait(u, flow, len, timeout_ms) && dtu_govern_waits(u, peer, len))
+        return dtu_govern_keep_call(u, peer, flow, &payload, timeout_ms);
     struct dt_call_result made = dtu_core_call(&u->core, at, flow, &payload, timeout_ms);
     if (made.status == DT_OK) u->open_calls++;
     dtu_judge(u);
+    dtu_govern_count(u, peer);
     if (u->core.driven) (void)dtu_events_keep_up(u, at);
     return made;
 }
@@ -104,8 +121,12 @@ struct dt_reply_result dt_udp_reply(dt_udp *u, const struct dt_token *token, con
     dt_status status = begin(u, u->core.service, &at);
     if (status != DT_OK) return (struct dt_reply_result){.status = status};
     struct iovec payload = payload_of(octets, len);
+    struct peer *peer = dtu_peers_find(&u->peers, token->flow.source);
+    if (len + 8 <= u->options.params->cap && dtu_govern_waits(u, peer, len))
+        return dtu_govern_keep_reply(u, peer, token, &payload);
     struct dt_reply_result replied = dtu_core_reply(&u->core, at, token, &payload);
     dtu_judge(u);
+    dtu_govern_count(u, peer);
     if (u->core.driven) (void)dtu_events_keep_up(u, at);
     return replied;
 }

@@ -170,3 +170,10 @@ uint64_t dtu_core_outstanding(struct core *core) {
     struct dt_node_counts it = counts_of(core);
     return it.octets_queued - it.octets_acknowledged - it.octets_uncertain;
 }
+
+/* How many octets were sent, and how many of them are acknowledged or uncertain. */
+void dtu_core_totals(struct core *core, uint64_t *queued, uint64_t *settled) {
+    struct dt_node_counts it = counts_of(core);
+    *queued = it.octets_queued;
+    *settled = it.octets_acknowledged + it.octets_uncertain;
+}

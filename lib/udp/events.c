@@ -160,7 +160,7 @@ static bool next_of_service(dt_udp *u) {
         return true;
     }
     u->event.kind = it.kind == DT_EVENT_ANSWERED ? DT_UDP_EVENT_ANSWERED : DT_UDP_EVENT_UNSURE;
-    u->event.call = it.call;
+    u->event.call = dtu_govern_number(u, it.call);
     u->event.cause = it.cause;
     u->open_calls -= u->open_calls > 0;
     return true;
@@ -178,7 +178,7 @@ static bool next_too_big(dt_udp *u) {
 
 /* Makes the next thing that happened the event. False: nothing did. */
 static bool next_event(dt_udp *u) {
-    return next_too_big(u) || dtu_watch_event(u) || next_report(u) || dtu_objects_event(u) ||
+    return next_too_big(u) || dtu_watch_event(u) || dtu_govern_event(u) || next_report(u) || dtu_objects_event(u) ||
            (u->core.service ? next_of_service(u) : next_message(u));
 }
 

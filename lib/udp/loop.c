@@ -47,6 +47,7 @@ static uint64_t wake_of(dt_udp *u, uint64_t now) {
     uint64_t objects = dtu_objects_wake(u);
     if (greets < wake) wake = greets;
     if (objects < wake) wake = objects;
+    if (dtu_govern_wake(u, now) < wake) wake = dtu_govern_wake(u, now);
     if (!u->stamps && wake > now + BLIND_WAKE_MS) wake = now + BLIND_WAKE_MS;
     return wake > now
                ? wake
@@ -75,6 +76,7 @@ static void tick(dt_udp *u, uint64_t us) {
     (void)dtu_core_tick(&u->core, at);
     dtu_judge(u);
     dtu_events_collect(u, at);
+    dtu_govern_count(u, NULL);
 }
 
 /* Sends what waits, looks at the socket once, for at most `wait_ms` ms (-1: without limit), and does what is due. */
@@ -89,6 +91,7 @@ void dtu_loop_turn(dt_udp *u, int wait_ms) {
     u->turned_at = us / 1000;
     dtu_strangers_greet(u, us / 1000);
     tick(u, us);
+    dtu_govern_release(u);
 }
 
 dt_status dt_udp_drain(dt_udp *u, int wait_ms) {
@@ -97,7 +100,7 @@ dt_status dt_udp_drain(dt_udp *u, int wait_ms) {
     for (u->interrupted = false;; now = dtu_clock_ms()) {
         /* the other side may wait for an acknowledgement, which leaves `a` ms after what it acknowledges */
         uint64_t owes_until = u->heard_at + u->options.params->a + 1;
-        if (dtu_core_outstanding(&u->core) == 0 && now > owes_until) break;
+        if (dtu_core_outstanding(&u->core) == 0 && u->governing.waiting == NULL && now > owes_until) break;
         if (now >= end || u->interrupted) return DT_NONE;
         dtu_loop_turn(u, end - now < LONGEST_WAIT_MS ? (int)(end - now) : LONGEST_WAIT_MS);
         if (u->failed) return u->failed;

@@ -98,6 +98,7 @@ static dt_status take_options(dt_udp *u, const struct dt_udp_options *given, str
     o->max_message = or_usual(o->max_message, 65536);
     o->max_queued = or_usual(o->max_queued, 1 << 20);
     o->max_flows = or_usual(o->max_flows, 4096);
+    o->max_waiting = or_usual(o->max_waiting, 1 << 24);
     return DT_OK;
 }
 
@@ -138,7 +139,8 @@ static dt_status open_all(dt_udp *u, const struct dt_udp_options *options, struc
     if ((status = dtu_socket_open(u, error)) != DT_OK) return status;
     if (dtu_reading_open(u) != DT_OK || dtu_writing_open(u) != DT_OK)
         return dtu_refuse(error, DT_NO_MEMORY, 0, "out of memory");
-    if ((status = dtu_strangers_open(u)) != DT_OK || (status = dtu_watch_open(u)) != DT_OK)
+    if ((status = dtu_strangers_open(u)) != DT_OK || (status = dtu_watch_open(u)) != DT_OK ||
+        (status = dtu_govern_open(u)) != DT_OK)
         return dtu_refuse(error, status, errno, "no memory, or no random octets");
     u->opened = dtu_clock_reading();
     dtu_clock_was_empty(u, &u->opened);
@@ -181,6 +183,7 @@ void dt_udp_close(dt_udp *u) {
     dtu_writing_close(u);
     dtu_strangers_close(u);
     dtu_watch_close(u);
+    dtu_govern_close(u);
     dtu_driven_close(u);
     dtu_peers_close(&u->peers);
     dtu_loop_close(u);

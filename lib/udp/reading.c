@@ -87,9 +87,9 @@ bool dtu_is_from(struct peer *peer, const struct address *from) {
     return false;
 }
 
-/* Passes one datagram in; whether the node took it. What of it becomes readable is read at once, so that
+/* Passes one datagram in, of a peer or of a stranger (null); whether the node took it. What of it becomes readable is read at once, so that
  * acknowledgements say how much room there is. */
-bool dtu_pass_in(dt_udp *u, const struct arrival *it) {
+bool dtu_pass_in(dt_udp *u, struct peer *peer, const struct arrival *it) {
     if (!dtu_begin(u, it->at_us)) return false;
     dt_status status = dtu_core_receive(&u->core, it->at, it->octets, it->len, it->waited_ms);
     bool taken = status == DT_OK;
@@ -97,13 +97,14 @@ bool dtu_pass_in(dt_udp *u, const struct arrival *it) {
     if (taken) u->heard_at = it->at;
     dtu_judge(u);
     dtu_events_collect(u, it->at);
+    dtu_govern_count(u, peer);
     return taken;
 }
 
 /* Passes in a frame of a peer, of which it is known how long it waited. */
 void dtu_take_frame(dt_udp *u, struct peer *peer, const struct arrival *it) {
     uint64_t old = u->counts.too_old;
-    if (!dtu_pass_in(u, it)) {
+    if (!dtu_pass_in(u, peer, it)) {
         if (u->counts.too_old > old) dtu_watch_ask(u, peer, it);
         return;
     }

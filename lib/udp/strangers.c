@@ -138,6 +138,7 @@ static bool makes_room(dt_udp *u, uint64_t at) {
     unlink_peer(it);
     s->count--;
     u->counts.peers_forgotten++;
+    dtu_govern_drop(u, it);
     dtu_peers_remove(&u->peers, it);
     return true;
 }
@@ -304,6 +305,7 @@ static void keep(dt_udp *u, const struct arrival *it, struct peer *peer, struct 
     peer->at = *it->from;
     peer->own = it->own;
     peer->key = proof->key;
+    dtu_govern_drop(u, peer); /* (of an opening that is over) */
     dtu_watch_free(peer->watch);
     peer->watch = proof->watch;
     proof->watch = NULL;
@@ -329,6 +331,6 @@ void dtu_stranger(dt_udp *u, struct arrival *it) {
     }
     if (!dtu_watch_takes(u, &proof->watch, it)) return;
     uint64_t before = dtu_core_accepted(&u->core);
-    dtu_pass_in(u, it);
+    dtu_pass_in(u, peer, it);
     if (dtu_core_accepted(&u->core) != before) keep(u, it, peer, proof);
 }

@@ -11,6 +11,7 @@
  *   clocks.c    readings of the clocks, and how long a datagram waited in the socket
  *   trailer.c   the trailer behind each datagram between drivers
  *   watch.c     how old each datagram is that arrives
+ *   governor.c  how much is under way to each peer
  *   loop.c      the wait, the descriptor, the timer
  *   events.c    what dt_udp_next_event returns
  *   calls.c     what a program asks of the node
@@ -78,11 +79,37 @@ struct trailer {
     uint8_t kind, round, rounded;
 };
 
-/* What is known of a peer's clocks and openings. */
+/* A call or a reply that waits until it may be handed in; of a call that was, its number only. */
+struct waiting {
+    struct waiting *next;
+    uint64_t number, call; /* of a call: as the program knows it, and as the library does */
+    uint64_t deadline;
+    struct dt_flow flow;
+    struct dt_token token;
+    size_t len;
+    bool is_call;
+    uint8_t octets[];
+};
+
+/* How the window of a peer follows the delay; times are microseconds. */
+struct governor {
+    uint64_t base[2]; /* the least delay of this span and of the last one; DT_NEVER: none was measured */
+    uint64_t turned_us, round_us, heard_us, credit_us;
+    uint64_t sum_us, count; /* delays of this round */
+    int64_t credit;         /* octets that the pace lets go */
+    uint16_t sent_then, sent_before, lost_before;
+    uint8_t above; /* rounds in a row whose delay was above the aim */
+    bool fast, limited;
+};
+
+/* What is known of a peer's clocks and openings, and what is under way to it. */
 struct watch {
     dt_watch *rules;        /* behind this struct */
     uint64_t present, next; /* the names of its present opening, and of one that isn't proved; 0: none */
     uint64_t pinged_us;     /* when it was last asked */
+    uint64_t under_way;     /* octets that were handed in and aren't settled */
+    struct waiting *first_waiting, *last_waiting;
+    struct governor governor;
     uint16_t sent, heard, its_heard;
     uint16_t aged;          /* what it is told of its last datagram */
     uint8_t round, its_round;
@@ -114,8 +141,20 @@ struct watching {
     bool on;
 };
 
+/* What waits, of all peers. */
+struct governing {
+    struct peer *waiting;                        /* those for which something waits */
+    struct waiting *first_unsure, *last_unsure;  /* calls whose time was over before they were handed in */
+    struct waiting **named;                      /* calls that waited, by the library's numbers */
+    uint64_t queued, settled;                    /* the node's counters at the last look */
+    uint64_t counted;                            /* octets under way, of all peers */
+    uint64_t octets, numbers;                    /* of what waits; of calls that waited */
+    bool wants_room;                             /* something was refused for want of room */
+};
+
 struct peer {
     struct peer *next; /* in its bucket */
+    struct peer *next_waiting;
     struct watch *watch; /* null: nothing came yet */
     struct peer *next_too_big, *next_prover;
     struct peer *next_there; /* of a neighbour: in its bucket by address */
@@ -310,6 +349,7 @@ struct dt_udp {
     struct state state;
     struct objects objects;
     struct watching watching;
+    struct governing governing;
     struct queue queue;
     struct reports reports;
     struct message *lent;  /* what the last event points to */
@@ -363,6 +403,7 @@ struct dt_reply_result dtu_core_reply(struct core *core, uint64_t now, const str
                                       const struct iovec *octets);
 dt_status dtu_core_forget(struct core *core, uint64_t now, const struct dt_token *token);
 uint64_t dtu_core_outstanding(struct core *core);
+void dtu_core_totals(struct core *core, uint64_t *queued, uint64_t *settled);
 uint64_t dtu_core_accepted(struct core *core);
 bool dtu_core_is_known(void);
 uint64_t dtu_core_quiet_ms(const struct dt_params *params);
@@ -391,6 +432,7 @@ void dtu_peers_note_too_big(struct peers *peers, struct peer *peer, uint32_t len
 struct peer *dtu_peers_next_too_big(struct peers *peers);
 
 void dtu_peers_remove(struct peers *peers, struct peer *peer);
+void dtu_peers_each(struct peers *peers, void (*act)(struct peer *peer));
 
 /* --- strangers.c */
 dt_status dtu_strangers_open(dt_udp *u);
@@ -450,12 +492,34 @@ void dtu_watch_bare(dt_udp *u, struct peer *peer, const struct arrival *arrival)
 void dtu_watch_ask(dt_udp *u, struct peer *peer, const struct arrival *arrival);
 bool dtu_watch_event(dt_udp *u);
 
+struct watch *dtu_watch_of(dt_udp *u, struct peer *peer);
+
+/* --- governor.c */
+dt_status dtu_govern_open(dt_udp *u);
+void dtu_govern_close(dt_udp *u);
+void dtu_govern_free(struct watch *watch);
+void dtu_govern_drop(dt_udp *u, struct peer *peer);
+void dtu_govern_begin(struct governor *governor, uint64_t now_us);
+void dtu_govern_heard(dt_udp *u, struct watch *watch, const struct trailer *trailer, uint64_t now_us);
+void dtu_govern_count(dt_udp *u, struct peer *peer);
+void dtu_govern_forget(struct peer *peer);
+bool dtu_govern_admits(dt_udp *u, struct peer *peer, uint64_t octets);
+bool dtu_govern_waits(dt_udp *u, struct peer *peer, uint64_t octets);
+struct dt_call_result dtu_govern_keep_call(dt_udp *u, struct peer *peer, const struct dt_flow *flow,
+                                           const struct iovec *octets, uint32_t timeout_ms);
+struct dt_reply_result dtu_govern_keep_reply(dt_udp *u, struct peer *peer, const struct dt_token *token,
+                                             const struct iovec *octets);
+uint64_t dtu_govern_number(dt_udp *u, uint64_t call);
+bool dtu_govern_event(dt_udp *u);
+void dtu_govern_release(dt_udp *u);
+uint64_t dtu_govern_wake(const dt_udp *u, uint64_t now);
+
 /* --- reading.c */
 dt_status dtu_reading_open(dt_udp *u);
 void dtu_reading_close(dt_udp *u);
 void dtu_read_socket(dt_udp *u, int wait_ms);
 bool dtu_is_from(struct peer *peer, const struct address *from);
-bool dtu_pass_in(dt_udp *u, const struct arrival *arrival);
+bool dtu_pass_in(dt_udp *u, struct peer *peer, const struct arrival *arrival);
 void dtu_take_frame(dt_udp *u, struct peer *peer, const struct arrival *arrival);
 
 /* --- writing.c */

@@ -91,6 +91,7 @@ static struct watch *new_watch(dt_udp *u, uint64_t now) {
                                        .grain = GRAIN_US,
                                        .segment = u->options.params->seg};
     it->aged = TRAILER_NOT_AGED;
+    dtu_govern_begin(&it->governor, now);
     if (dt_watch_open(it->rules, &options) == DT_OK) return it;
     free(it);
     return NULL;
@@ -102,7 +103,13 @@ static struct watch *watch_at(dt_udp *u, struct watch **place, uint64_t now) {
     return *place;
 }
 
-void dtu_watch_free(struct watch *watch) { free(watch); }
+/* What is known of a peer. Null: out of memory. */
+struct watch *dtu_watch_of(dt_udp *u, struct peer *peer) { return watch_at(u, &peer->watch, dtu_clock_us()); }
+
+void dtu_watch_free(struct watch *watch) {
+    if (watch) dtu_govern_free(watch);
+    free(watch);
+}
 
 /* --- trailers of datagrams that leave */
 
@@ -252,6 +259,7 @@ static enum watched hear(dt_udp *u, struct watch *it, const struct arrival *a, b
         it->alarms = 0;
     }
     note_rounds(it, t);
+    dtu_govern_heard(u, it, t, a->came_us);
     if (judged == DT_JUDGED_EARLY) u->counts.early_openings++;
     return judged == DT_JUDGED_EARLY ? WATCHED_DROPPED : WATCHED_PRESENT;
 }
