@@ -1,6 +1,6 @@
 -- What is closed stays closed, commit by commit.
-use Rattle.std.proofs.Common.{◌≡◌, ◌≢◌, ◌+◌, ◌≤◌, ◌<◌, ℕ, inl, inr, arith}
-use Rattle.std.specs.Prelude.{max, Option, Some, None}
+use Rattle.std.proofs.Common.{◌≤◌, ◌<◌, ℕ, inl, inr, arith}
+use Rattle.std.specs.Prelude.{Option, Some, None}
 use Rattle.dt_orders_model.specs.declared.registers.Row.{Row}
 use Rattle.dt_orders_model.specs.declared.registers.RowState.{RowState}
 use Rattle.dt_orders_model.specs.Closing.{IsClosed, IsOpen}

@@ -1,15 +1,14 @@
 -- Each commit leaves a sound store.
 use Rattle.std.proofs.Common.{◌≡◌, ◌≢◌, ◌+◌, ◌≤◌, ◌<◌, ◌∙◌, ℕ, suc, List, [], ◌∷◌, Bool, true, false, ◌⊎◌, inl, inr, ap, sym, subst, arith, refl}
 use Rattle.std.specs.Prelude.{if◌then◌else◌, Option, Some, None}
-use Rattle.dt_orders_model.specs.declared.registers.Row.{Row}
 use Rattle.dt_orders_model.specs.declared.registers.RowState.{RowState}
 use Rattle.dt_orders_model.specs.declared.registers.RowState.TheVariants.{AtWork, Cancelled, Done}
 use Rattle.dt_orders_model.specs.Closing.{IsClosed, IsOpen}
-use Rattle.dt_orders_model.specs.Stores.{Act, Among, Entry, Executed, Given, Name, Store, Taken, Withdrawn, begun, executed, finished, forgotten, is_same, put, results_of, row_of, times, touched, withdrawn}
-use Rattle.dt_orders_model.specs.Writing.{floor_of, horizon_after, row_after, row_finished, row_touched}
+use Rattle.dt_orders_model.specs.Stores.{Act, Among, Entry, Executed, Given, Name, Store, Taken, Withdrawn, is_same, put, results_of, row_of, times}
+use Rattle.dt_orders_model.specs.Writing.{horizon_after, row_after, row_finished, row_touched}
 use Rattle.dt_orders_laws.proofs.Closed.{KeepsClosed, closed_by_itself, closed_finished, closed_forgotten, closed_touched, closed_written, keeps_put}
 use Rattle.dt_orders_laws.proofs.Lists.{at_put, name_at, other_lane, results_alike, same_by, same_itself, untaken, was_taken}
-use Rattle.dt_orders_laws.proofs.Sound.{Grows, IsNewly, IsRow, MoreBy, RowHolds, Sound, Told, TookAs, floor_within, grown, nothing_more, row_more, sound_grown}
+use Rattle.dt_orders_laws.proofs.Sound.{Grows, IsNewly, IsRow, MoreBy, RowHolds, Sound, Told, floor_within, nothing_more, row_more}
 
 -- AN ORDER IS TAKEN that is open and wasn't taken before
 module _ (s : Store) (o : Name) (open_at : ℕ) (sound : Sound s) (is_open : IsOpen s.horizon (row_of (s.rows o.lane)) o.number open_at) (new : (d : Taken) → Among d s.log → is_same d.name o ≡ false) where

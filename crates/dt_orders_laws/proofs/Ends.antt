@@ -1,24 +1,21 @@
 -- What an answer says of an order.
-use Rattle.std.proofs.Common.{◌≡◌, ◌≢◌, ◌+◌, ◌≤◌, ◌<◌, ◌∙◌, ℕ, suc, List, [], ◌∷◌, Bool, true, false, ◌⊎◌, inl, inr, ap, sym, subst, arith, refl}
+use Rattle.std.proofs.Common.{◌≡◌, ◌+◌, ◌≤◌, ℕ, List, Bool, true, false, inl, inr, sym, subst, arith, refl}
 use Rattle.std.specs.Prelude.{◌==◌, ◌&&◌, not, if◌then◌else◌, nat_le, nat_lt, Option, Some, None}
 use Rattle.std.proofs.lemmas.Bool.{cases_lt}
 use Rattle.std.proofs.lemmas.Bool.Decides.{nat_tests}
 use Rattle.dt_orders_model.specs.declared.knowledge.Known.{Known}
-use Rattle.dt_orders_model.specs.declared.registers.Row.{Row}
 use Rattle.dt_orders_model.specs.declared.registers.RowState.{RowState}
 use Rattle.dt_orders_model.specs.declared.registers.RowState.TheVariants as state
-use Rattle.dt_orders_model.specs.declared.requests.Asked.{Asked}
 use Rattle.dt_orders_model.specs.declared.requests.Kind.{Kind}
 use Rattle.dt_orders_model.specs.declared.requests.Kind.TheVariants as kind
 use Rattle.dt_orders_model.specs.declared.requests.Verdict.{Verdict}
 use Rattle.dt_orders_model.specs.declared.requests.Verdict.TheVariants as verdict
-use Rattle.dt_orders_model.specs.Chains.{is_on_by}
 use Rattle.dt_orders_model.specs.Closing.{IsClosed}
 use Rattle.dt_orders_model.specs.Fates.{WasExecuted, WasWithdrawn}
-use Rattle.dt_orders_model.specs.Histories.{Call, Commits, IsNew, cancels, commits, executes, goes, Goes, Note, Onward, Reached, World, asked_of, commit, known_or, verdict_at}
-use Rattle.dt_orders_model.specs.Judging.{is_ask, is_forked, is_met, judged_above, judged_by, said, stale_by, verdict_of, wanted}
-use Rattle.dt_orders_model.specs.Stores.{Act, Among, Entry, Executed, Given, Name, Store, Taken, Withdrawn, executed, executions, heard, is_on, meta_of, place_of, results_of, row_of, shared, times, withdrawn}
-use Rattle.dt_orders_laws.proofs.Lawful.{Lawful, new_is_untaken}
+use Rattle.dt_orders_model.specs.Histories.{Call, Commits, IsNew, cancels, commits, executes, goes, Onward, Reached, World, asked_of, commit, known_or, verdict_at}
+use Rattle.dt_orders_model.specs.Judging.{is_ask, is_forked, is_met, judged_above, judged_by, said, stale_by, wanted}
+use Rattle.dt_orders_model.specs.Stores.{Among, Entry, Executed, Name, Store, Taken, Withdrawn, executed, executions, heard, is_on, place_of, row_of, shared, withdrawn}
+use Rattle.dt_orders_laws.proofs.Lawful.{new_is_untaken}
 use Rattle.dt_orders_laws.proofs.Lists.{executed_is_taken, executed_more, had_result, its_execution, name_at, name_is, same_by, was_executed, was_withdrawn}
 use Rattle.dt_orders_laws.proofs.Moving.{does, lawful_of, moves_on, reached_on}
 use Rattle.dt_orders_laws.proofs.Sound.{IsRow, RowHolds, Sound, Told, TookAs}

@@ -1,17 +1,16 @@
 -- What holds of every history.
-use Rattle.std.proofs.Common.{◌≡◌, ◌≢◌, ◌+◌, ◌≤◌, ◌<◌, ◌∙◌, ℕ, suc, List, [], ◌∷◌, Bool, true, false, ◌⊎◌, inl, inr, ap, sym, subst, arith, refl, length}
-use Rattle.std.specs.Prelude.{if◌then◌else◌, Option, Some, None}
+use Rattle.std.proofs.Common.{◌≡◌, ◌≢◌, ◌+◌, ◌≤◌, ◌<◌, ◌∙◌, ℕ, List, [], ◌∷◌, Bool, true, false, ◌⊎◌, inl, inr, ap, sym, subst, arith, refl, length}
+use Rattle.std.specs.Prelude.{Option}
 use Rattle.std.proofs.lemmas.Bool.{cases_lt}
 use Rattle.dt_orders_model.specs.declared.knowledge.Known.{Known}
-use Rattle.dt_orders_model.specs.declared.knowledge.Opening.{Opening}
 use Rattle.dt_orders_model.specs.declared.knowledge.Place.{Place}
 use Rattle.dt_orders_model.specs.Closing.{IsClosed, IsOpen}
 use Rattle.dt_orders_model.specs.Histories.{IsDrawn, IsDrawnAnew, IsNew, Note, World, commit, noted}
 use Rattle.dt_orders_model.specs.Stores.{Among, Entry, Given, Name, Store, Taken, heard, is_on, is_same, place_of, reopened, row_of, shared}
 use Rattle.dt_orders_laws.proofs.Closed.{open_is_not_closed}
-use Rattle.dt_orders_laws.proofs.Lists.{alike_of, either_of, same_by, same_itself}
+use Rattle.dt_orders_laws.proofs.Lists.{alike_of, either_of, same_by}
 use Rattle.dt_orders_laws.proofs.Places.{IsHeard, head_is, left_within, not_on_more, not_on_nowhere, not_there, on_goes_on, on_reopened, shared_by_more, shared_goes_on, shared_nowhere, shared_reopened, shared_within}
-use Rattle.dt_orders_laws.proofs.Sound.{Grows, IsNewly, Sound, grown, sound_grown, sound_reopened}
+use Rattle.dt_orders_laws.proofs.Sound.{Grows, Sound, grown, sound_grown, sound_reopened}
 
 -- the note of an order that was taken
 pub record IsNoted (notes : List Note) (d : Taken) : Type 0 where

@@ -1,8 +1,8 @@
 -- One of a list; names; how often.
-use Rattle.std.proofs.Common.{◌≡◌, ◌≢◌, ◌+◌, ◌≤◌, ◌<◌, ◌∙◌, ℕ, suc, List, [], ◌∷◌, Bool, true, false, ◌⊎◌, inl, inr, ap, sym, subst, arith, refl}
-use Rattle.std.specs.Prelude.{◌==◌, ◌&&◌, if◌then◌else◌, Option, Some, None}
+use Rattle.std.proofs.Common.{◌≡◌, ◌≢◌, ◌≤◌, ◌<◌, ◌∙◌, ℕ, suc, List, [], ◌∷◌, Bool, true, false, inl, inr, ap, sym, subst, arith, refl}
+use Rattle.std.specs.Prelude.{◌==◌, ◌&&◌, if◌then◌else◌, Option}
 use Rattle.std.proofs.lemmas.Bool.Decides.{nat_tests}
-use Rattle.dt_orders_model.specs.Stores.{Act, Among, Entry, Executed, Given, Name, Taken, Withdrawn, executions, is_executed, is_same, put, results_of, times}
+use Rattle.dt_orders_model.specs.Stores.{Among, Entry, Executed, Given, Name, Taken, Withdrawn, executions, is_executed, is_same, put, results_of, times}
 
 -- what holds of the first and of each other one holds of each
 pub either_of : {A : Type 0} (P : A → Type 0) (x : A) (xs : List A) → P x → ((y : A) → Among y xs → P y) → (y : A) → Among y (x ∷ xs) → P y

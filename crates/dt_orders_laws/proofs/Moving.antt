@@ -1,22 +1,16 @@
 -- The laws, of each history.
-use Rattle.std.proofs.Common.{◌≡◌, ◌≢◌, ◌+◌, ◌≤◌, ◌<◌, ◌∙◌, ℕ, suc, List, [], ◌∷◌, Bool, true, false, ◌⊎◌, inl, inr, ap, sym, subst, arith, refl}
-use Rattle.std.specs.Prelude.{◌==◌, ◌&&◌, not, if◌then◌else◌, nat_le, nat_lt, Option, Some, None}
-use Rattle.std.proofs.lemmas.Bool.Decides.{nat_tests}
-use Rattle.dt_orders_model.specs.declared.registers.Row.{Row}
-use Rattle.dt_orders_model.specs.declared.registers.RowState.{RowState}
-use Rattle.dt_orders_model.specs.declared.registers.RowState.TheVariants.{AtWork, Cancelled, Done}
+use Rattle.std.proofs.Common.{◌≡◌, ◌+◌, ◌≤◌, ℕ, [], ◌∷◌, Bool, false, ◌⊎◌, inl, inr, sym, subst, arith, refl}
 use Rattle.dt_orders_model.specs.declared.requests.Verdict.{Verdict}
 use Rattle.dt_orders_model.specs.declared.requests.Verdict.TheVariants as verdict
-use Rattle.dt_orders_model.specs.Closing.{IsClosed, IsOpen}
-use Rattle.dt_orders_model.specs.Fates.{WasExecuted, WasWithdrawn}
+use Rattle.dt_orders_model.specs.Closing.{IsOpen}
 use Rattle.dt_orders_model.specs.Histories.{Call, Commits, Goes, Note, Onward, Reached, World, asked_of, begins, cancels, commit, commits, executes, fails, finishes, first, first_store, first_world, forgets, goes, known_or, notes, on, set_back, starts, stays, touches, verdict_at}
-use Rattle.dt_orders_model.specs.Stores.{Act, Among, Entry, Executed, Given, Name, Store, Taken, Withdrawn, begun, executed, executions, finished, forgotten, heard, is_on, is_same, meta_of, place_of, reopened, results_of, row_of, shared, times, touched, withdrawn}
+use Rattle.dt_orders_model.specs.Stores.{Act, Among, Executed, Given, Store, Taken, Withdrawn, is_same, meta_of, place_of, row_of, shared}
 use Rattle.dt_orders_laws.proofs.Closed.{KeepsClosed}
 use Rattle.dt_orders_laws.proofs.Commits.{grows_begun, grows_executed, grows_finished, grows_forgotten, grows_touched, grows_withdrawn}
-use Rattle.dt_orders_laws.proofs.Lawful.{CameFrom, IsNoted, IsPast, Lawful, lawful_failed, lawful_grown, lawful_new, lawful_opened, untaken_by}
-use Rattle.dt_orders_laws.proofs.Lists.{executed_is_taken, had_result, name_at, name_is, same_itself, was_executed, was_withdrawn}
+use Rattle.dt_orders_laws.proofs.Lawful.{IsNoted, IsPast, Lawful, lawful_failed, lawful_grown, lawful_new, lawful_opened, untaken_by}
+use Rattle.dt_orders_laws.proofs.Lists.{same_itself}
 use Rattle.dt_orders_laws.proofs.Places.{left_within}
-use Rattle.dt_orders_laws.proofs.Sound.{Grows, IsRow, RowHolds, Sound, Told, TookAs}
+use Rattle.dt_orders_laws.proofs.Sound.{Sound}
 use Rattle.dt_orders_laws.proofs.Verdicts.{Takes, takes_open}
 
 -- the first world

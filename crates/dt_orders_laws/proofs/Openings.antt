@@ -1,12 +1,11 @@
 -- A place is found by two openings.
-use Rattle.std.proofs.Common.{◌≡◌, ◌≢◌, ◌+◌, ◌≤◌, ◌<◌, ◌∙◌, ℕ, suc, List, [], ◌∷◌, Bool, true, false, inl, inr, ap, sym, subst, arith, refl, length}
+use Rattle.std.proofs.Common.{◌≡◌, ◌≢◌, ◌+◌, ◌≤◌, ◌<◌, ◌∙◌, ℕ, List, [], ◌∷◌, Bool, true, false, inl, inr, sym, subst, arith, refl, length}
 use Rattle.std.specs.Prelude.{◌-◌, ◌==◌, if◌then◌else◌, Option, Some, None}
 use Rattle.std.proofs.lemmas.Bool.{cases_lt}
 use Rattle.std.proofs.lemmas.Bool.Decides.{nat_tests}
 use Rattle.dt_orders_model.specs.declared.knowledge.Known.{Known}
 use Rattle.dt_orders_model.specs.declared.knowledge.Opening.{Opening}
-use Rattle.dt_orders_model.specs.declared.knowledge.Place.{Place}
-use Rattle.dt_orders_model.specs.Chains.{left_before, nowhere, opening_at, place_by, place_in}
+use Rattle.dt_orders_model.specs.Chains.{opening_at, place_by, place_in}
 
 equal_test : (a b : ℕ) → a ≡ b → (a == b) ≡ true
 equal_test a b e = grind (arith, nat_tests)

@@ -1,11 +1,11 @@
 -- Places of commits in a store's openings.
-use Rattle.std.proofs.Common.{◌≡◌, ◌≢◌, ◌+◌, ◌≤◌, ◌<◌, ◌∙◌, ℕ, suc, List, [], ◌∷◌, Bool, true, false, ◌⊎◌, inl, inr, ap, sym, subst, arith, refl, length}
+use Rattle.std.proofs.Common.{◌≡◌, ◌≢◌, ◌+◌, ◌≤◌, ℕ, List, [], ◌∷◌, Bool, true, false, sym, subst, arith, refl, length}
 use Rattle.std.specs.Prelude.{◌-◌, ◌==◌, ◌&&◌, min, nat_le, if◌then◌else◌}
 use Rattle.std.proofs.lemmas.Bool.Decides.{nat_tests}
 use Rattle.dt_orders_model.specs.declared.knowledge.Known.{Known}
 use Rattle.dt_orders_model.specs.declared.knowledge.Opening.{Opening}
 use Rattle.dt_orders_model.specs.declared.knowledge.Place.{Place}
-use Rattle.dt_orders_model.specs.Chains.{is_on_by, nowhere, place_in, shared_by}
+use Rattle.dt_orders_model.specs.Chains.{is_on_by, place_in, shared_by}
 use Rattle.dt_orders_model.specs.Histories.{IsDrawn}
 
 -- the openings began no later than they were left

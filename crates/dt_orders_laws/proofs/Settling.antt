@@ -1,5 +1,5 @@
 -- An order that is closed for each of its notes is settled.
-use Rattle.std.proofs.Common.{◌≡◌, ◌≢◌, ◌+◌, ◌≤◌, ◌<◌, ◌∙◌, ℕ, suc, List, [], ◌∷◌, Bool, true, false, ◌⊎◌, inl, inr, ap, sym, subst, arith, refl}
+use Rattle.std.proofs.Common.{◌≡◌, ◌≢◌, ◌+◌, ◌≤◌, ◌<◌, ◌∙◌, ℕ, suc, List, ◌∷◌, Bool, true, false, ◌⊎◌, inl, inr, ap, sym, subst, arith, refl}
 use Rattle.std.specs.Prelude.{◌==◌, ◌&&◌, not, if◌then◌else◌, nat_le, nat_lt, Option, Some, None}
 use Rattle.std.proofs.lemmas.Bool.Decides.{nat_tests}
 use Rattle.dt_orders_model.specs.declared.knowledge.Known.{Known}
@@ -12,9 +12,9 @@ use Rattle.dt_orders_model.specs.declared.requests.Kind.TheVariants as kind
 use Rattle.dt_orders_model.specs.declared.requests.Verdict.{Verdict}
 use Rattle.dt_orders_model.specs.declared.requests.Verdict.TheVariants as verdict
 use Rattle.dt_orders_model.specs.Closing.{IsClosed, IsOpen}
-use Rattle.dt_orders_model.specs.Histories.{Call, Commits, Goes, HasNoNewer, IsNew, Note, Onward, Reached, World, asked_of, begins, cancels, commit, commits, executes, fails, finishes, forgets, goes, known_or, notes, on, starts, stays, touches, verdict_at}
+use Rattle.dt_orders_model.specs.Histories.{Call, Commits, Goes, HasNoNewer, IsNew, Note, Onward, Reached, World, asked_of, begins, cancels, commit, commits, executes, fails, finishes, forgets, known_or, notes, on, starts, stays, touches, verdict_at}
 use Rattle.dt_orders_model.specs.Judging.{is_ask, is_forked, is_met, judged_above, judged_by, said, stale_by, wanted}
-use Rattle.dt_orders_model.specs.Stores.{Act, Among, Entry, Executed, Given, Name, Store, Taken, Withdrawn, executions, heard, is_executed, is_same, meta_of, place_of, put, reopened, row_of, shared, touched}
+use Rattle.dt_orders_model.specs.Stores.{Act, Among, Entry, Executed, Given, Name, Store, Taken, Withdrawn, executions, heard, is_executed, is_same, place_of, reopened, row_of, shared, touched}
 use Rattle.dt_orders_model.specs.Writing.{row_touched}
 use Rattle.dt_orders_laws.proofs.Closed.{KeepsClosed, open_is_not_closed}
 use Rattle.dt_orders_laws.proofs.Lawful.{Lawful, drawn_of, new_is_untaken, note_heard, shared_below}

@@ -1,7 +1,6 @@
 -- What holds of a store by itself.
-use Rattle.std.proofs.Common.{◌≡◌, ◌≢◌, ◌+◌, ◌≤◌, ◌<◌, ◌∙◌, ℕ, suc, List, [], ◌∷◌, Bool, true, false, ◌⊎◌, inl, inr, ap, sym, subst, arith, refl}
+use Rattle.std.proofs.Common.{◌≡◌, ◌+◌, ◌≤◌, ◌<◌, ◌∙◌, ℕ, List, ◌∷◌, ◌⊎◌, inl, inr, arith, refl}
 use Rattle.std.specs.Prelude.{◌-◌, Option, Some, None}
-use Rattle.dt_orders_model.specs.declared.registers.Row.{Row}
 use Rattle.dt_orders_model.specs.declared.registers.RowState.{RowState}
 use Rattle.dt_orders_model.specs.declared.registers.RowState.TheVariants.{AtWork, Cancelled, Done}
 use Rattle.dt_orders_model.specs.Closing.{IsClosed}

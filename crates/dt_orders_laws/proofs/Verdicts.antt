@@ -1,5 +1,5 @@
 -- What a verdict says of the row.
-use Rattle.std.proofs.Common.{◌≡◌, ◌+◌, ◌≤◌, ◌<◌, ℕ, Bool, true, false, inl, inr, sym, subst, arith, refl}
+use Rattle.std.proofs.Common.{◌≡◌, ◌≤◌, ◌<◌, ℕ, Bool, true, false, arith, refl}
 use Rattle.std.specs.Prelude.{◌==◌, ◌&&◌, not, nat_le, nat_lt, if◌then◌else◌, Option, Some, None}
 use Rattle.std.proofs.lemmas.Bool.Decides.{nat_tests}
 use Rattle.dt_orders_model.specs.declared.registers.Meta.{Meta}
@@ -8,7 +8,6 @@ use Rattle.dt_orders_model.specs.declared.registers.RowState.{RowState}
 use Rattle.dt_orders_model.specs.declared.registers.RowState.TheVariants as state
 use Rattle.dt_orders_model.specs.declared.requests.Asked.{Asked}
 use Rattle.dt_orders_model.specs.declared.requests.Kind.{Kind}
-use Rattle.dt_orders_model.specs.declared.requests.Kind.TheVariants as kind
 use Rattle.dt_orders_model.specs.declared.requests.Places.{Places}
 use Rattle.dt_orders_model.specs.declared.requests.Verdict.{Verdict}
 use Rattle.dt_orders_model.specs.declared.requests.Verdict.TheVariants as verdict

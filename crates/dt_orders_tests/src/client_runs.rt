@@ -440,7 +440,8 @@ static LATE: [Event; 8] = [
 ];
 
 #[test]
-fn a_late_answer_is_strange_and_one_of_another_opening_is_used_if_its_call_knew_all(rt: HostRuntime) {
+fn a_late_answer_is_strange_and_one_of_another_opening_is_used_if_its_call_knew_all(
+    rt: HostRuntime,
+) {
     follows(&rt, false, &LATE);
 }
-
