@@ -465,9 +465,10 @@ uint64_t dt_node_wake(dt_node *node);
 /* ---- 8 MESSAGES ----
  *
  * Whole messages, put together from what is read. Each that is returned has all octets from its
- * begin mark to its end mark. The law of messages, each once and in order (dt_service_laws), is
- * about reads that a program joins by these rules; that dt_node_next_message finds every message
- * isn't proved. */
+ * begin mark to its end mark. By the laws of messages, those of a flow that is read by no other
+ * call were sent, each comes at most once, and they come in order (dt_mailbox_laws; of reads that a
+ * program joins itself, dt_service_laws). That dt_node_next_message finds every message isn't
+ * proved. */
 
 /* Enables dt_node_next_message, for messages of at most `longest` octets. A longer one is dropped
  * and counted in `dropped_too_long`, and the next message of its flow has `gap`. The begun part of
