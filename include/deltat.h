@@ -68,8 +68,9 @@
  *
  * The laws assume more than these duties. Outside the following they say nothing:
  *   - The clocks of two nodes differ by a constant whole number of milliseconds, over restarts too.
- *     Two machines round differently, and a clock that begins at a reboot begins anew. Charges are
- *     made longer to pay for rounding and drift (docs/premises.md), but no law says that this
+ *     Two machines round differently: that is within the laws if each datagram takes 1 ms at least
+ *     and charges are 1 ms longer than delays. A clock that drifts, or begins anew at a reboot,
+ *     isn't. Charges are made longer to pay for drift (docs/premises.md), but no law says that this
  *     suffices.
  *   - The parameters are equal including `start`.
  *   - Every opening of a node but its first uses DT_START_AGAIN.
