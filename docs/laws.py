@@ -48,6 +48,11 @@ CLAIMS = (
         OCTETS + LEDGER + WORLD + MESSAGES + SERVICES,
     ),
     Claim(HEADER, "The laws assume more than these duties."),
+    Claim(
+        HEADER,
+        "that is within the laws if each datagram takes 1 ms at least and charges are 1 ms longer than delays.",
+        OCTETS + WORLD,
+    ),
     Claim(HEADER, "no law says that this suffices"),
     Claim(HEADER, "By the laws of messages", MESSAGES + MAILBOX),
     Claim(
