@@ -12,7 +12,7 @@ use Rattle.dt_inbox.specs.declared.inboxes.TakenMessage.TheVariants as taken
 use Rattle.dt_inbox.specs.declared.mailboxes.Handed.{Handed}
 use Rattle.dt_inbox.specs.declared.mailboxes.Handed.TheVariants as handed
 use Rattle.dt_inbox.specs.declared.mailboxes.Letter.{Letter}
-use Rattle.dt_inbox.specs.FlowInboxes.{FlowInboxValue, FlowInboxesValue, PassesOn, TakesAny, TakesFrom, TakesNext, inboxes_after, is_due, is_of, is_over, no_pass}
+use Rattle.dt_inbox.specs.FlowInboxes.{FlowInboxValue, FlowInboxesValue, PassesOn, TakesAny, TakesFrom, TakesNext, is_due, is_of, is_over, no_pass, piece_room}
 use Rattle.dt_inbox.specs.FlowInboxes as passes
 use Rattle.dt_inbox.specs.Inboxes.{most_reads}
 use Rattle.dt_inbox.specs.Mailboxes.{Fetches, HandsFetched, HandsOut, MailboxValue, TakesInto, buffer_after, handed_of, has_room, letter_in, letter_of, waiting_after}
@@ -26,7 +26,7 @@ use Rattle.dt_service_laws.proofs.Pieces.{begun_append, messages_append}
 use Rattle.dt_service_laws.proofs.Wholes.{IsSameOrNone, in_order}
 use Rattle.dt_mailbox_laws.specs.Mails.{Mails, anew, forgets, goes, hears, letters_of, messages_for, octets_if, reads_any, reads_fetched, reads_from, reads_into, reads_next, reads_passed, rests, takes}
 use Rattle.dt_mailbox_laws.proofs.Kept.{IsKept, kept_begun, kept_heard, kept_removed, kept_set, kept_without, placed_within}
-use Rattle.dt_mailbox_laws.proofs.Reads.{in_goes, in_other, read_append, whole_of}
+use Rattle.dt_mailbox_laws.proofs.Finding.{in_goes, in_other, read_append, whole_of}
 
 -- the message of a flow that was made whole, and the one that waits
 abbrev messages_if : Bool → List (List ℕ) → List (List ℕ)
@@ -110,16 +110,17 @@ module _ (f : Flow) (n : ℕ) where
       subst (λ (is : List Item). IsKept f (begun_after t is) x.inboxes) (sym (read_append f (reads_passed n before) (reads_from n last)))
       (subst (λ (o : Option (List ℕ)). IsKept f o x.inboxes) (sym (begun_append t xs ys)) go.kept)
 
-  any_goes : (answer : Option (Flow × TakenMessage)) {now room : ℕ} {v w : FlowInboxesValue} {e g : EndpointValue} (h : TakesAny answer now room v w e g) (t : Option (List ℕ)) → IsKept f t v.inboxes → InboxesGo f answer w t (all_read f (reads_any n answer h))
-  any_goes None h t kept = record { kept = subst (λ (x : FlowInboxesValue). IsKept f t x.inboxes) (sym h.1) kept; whole = none }
-  any_goes (Some answer) h t kept = from_goes h t kept
+  any_goes : (answer : Option (Flow × TakenMessage)) (now room : ℕ) (v w : FlowInboxesValue) (e g : EndpointValue) (h : TakesAny answer now room v w e g) (t : Option (List ℕ)) → IsKept f t v.inboxes → InboxesGo f answer w t (all_read f (reads_any n answer now room v w e g h))
+  any_goes None now room v w e g h t kept = record { kept = subst (λ (x : FlowInboxesValue). IsKept f t x.inboxes) (sym h.1) kept; whole = none }
+  any_goes (Some answer) now room v w e g h t kept = from_goes h t kept
 
   next_goes : {answer : Option (Flow × TakenMessage)} {now : ℕ} {v x : FlowInboxesValue} {e g : EndpointValue} (h : TakesNext answer now v x e g) (t : Option (List ℕ)) → IsKept f t v.inboxes → InboxesGo f answer x t (all_read f (reads_next n h))
-  next_goes {answer} {x} h t kept =
+  next_goes {answer} {now} {x} {g} h t kept =
       let xs = all_read f (reads_passed n h.passes) in
-      let ys = all_read f (reads_any n answer h.last) in
-      let go = any_goes answer h.last (begun_after t xs) (passes_go h.passes t kept) in
-      subst (λ (is : List Item). InboxesGo f answer x t is) (sym (read_append f (reads_passed n h.passes) (reads_any n answer h.last))) (record {
+      let any = reads_any n answer now piece_room h.before x h.host g h.last in
+      let ys = all_read f any in
+      let go = any_goes answer now piece_room h.before x h.host g h.last (begun_after t xs) (passes_go h.passes t kept) in
+      subst (λ (is : List Item). InboxesGo f answer x t is) (sym (read_append f (reads_passed n h.passes) any)) (record {
         kept = subst (λ (o : Option (List ℕ)). IsKept f o x.inboxes) (sym (begun_append t xs ys)) go.kept;
         whole = subst (λ (ms : List (List ℕ)). AreSomeOf (whole_for f answer) ms) (sym (messages_append t xs ys)) (skip (messages_from t xs) go.whole);
       })
@@ -169,8 +170,8 @@ module _ (f : Flow) (n : ℕ) where
         | inr o ↦ rw o refl
       ]
 
-  hands_out : {answer : Handed} {before after : List ℕ} {m k : MailboxValue} → HandsOut answer before after m k → messages_for f (letters_of answer after) ++ waiting_for f k.waiting ≡ waiting_for f m.waiting
-  hands_out {answer} {before} {after} {m} {k} h =
+  hands_out : (answer : Handed) (before after : List ℕ) (m k : MailboxValue) → HandsOut answer before after m k → messages_for f (letters_of answer after) ++ waiting_for f k.waiting ≡ waiting_for f m.waiting
+  hands_out answer before after m k h =
       ap (λ (a : Handed). messages_for f (letters_of a after) ++ waiting_for f k.waiting) h.0
       ∙ ap (λ (b : List ℕ). messages_for f (letters_of (handed_of m.waiting before) b) ++ waiting_for f k.waiting) h.1
       ∙ ap (λ (x : MailboxValue). messages_for f (letters_of (handed_of m.waiting before) (buffer_after m.waiting before)) ++ waiting_for f x.waiting) h.2
@@ -181,8 +182,8 @@ module _ (f : Flow) (n : ℕ) where
     kept : IsKept f (begun_after t items) k.inboxes.inboxes
     some : AreSomeOf (messages_for f letters ++ waiting_for f k.waiting) (waiting_for f waiting ++ messages_from t items)
 
-  fetched_goes : (fetched : Option Handed) {answer : Handed} {now : ℕ} {before after : List ℕ} {m between k : MailboxValue} {e g : EndpointValue} (fetches : Fetches fetched now m between e g) → HandsFetched fetched answer before after between k → m.waiting ≡ None → (t : Option (List ℕ)) → IsKept f t m.inboxes.inboxes → MailGoes (letters_of answer after) None k t (all_read f (reads_fetched n fetched now m between e g fetches))
-  fetched_goes (Some why) {answer} {after} {m} {between} {k} fetches hands empty t kept =
+  fetched_goes : (fetched : Option Handed) (answer : Handed) (now : ℕ) (before after : List ℕ) (m between k : MailboxValue) (e g : EndpointValue) (fetches : Fetches fetched now m between e g) → HandsFetched fetched answer before after between k → m.waiting ≡ None → (t : Option (List ℕ)) → IsKept f t m.inboxes.inboxes → MailGoes (letters_of answer after) None k t (all_read f (reads_fetched n fetched now m between e g fetches))
+  fetched_goes (Some why) answer now before after m between k e g fetches hands empty t kept =
       let go = next_goes fetches.0.takes t kept in
       let items = all_read f (reads_next n fetches.0.takes) in
       let no_one : letters_of answer after ≡ [] = ap (λ (a : Handed). letters_of a after) hands.0 ∙ no_letter fetches.0.answer why after fetches.0.is in
@@ -192,20 +193,20 @@ module _ (f : Flow) (n : ℕ) where
         kept = subst (λ (x : MailboxValue). IsKept f (begun_after t items) x.inboxes.inboxes) (sym hands.2) go.kept;
         some = subst (λ (ms : List (List ℕ)). AreSomeOf ms (messages_from t items)) (sym nothing) none;
       }
-  fetched_goes None {answer} {before} {after} {m} {between} {k} fetches hands empty t kept =
+  fetched_goes None answer now before after m between k e g fetches hands empty t kept =
       let go = next_goes fetches.1.takes t kept in
       let items = all_read f (reads_next n fetches.1.takes) in
-      let out : messages_for f (letters_of answer after) ++ waiting_for f k.waiting ≡ whole_for f fetches.1.answer = hands_out hands ∙ ap (waiting_for f) fetches.2 ∙ sym (a_letter fetches.1.answer fetches.0 fetches.1.is) in
+      let out : messages_for f (letters_of answer after) ++ waiting_for f k.waiting ≡ whole_for f fetches.1.answer = hands_out answer before after between k hands ∙ ap (waiting_for f) fetches.2 ∙ sym (a_letter fetches.1.answer fetches.0 fetches.1.is) in
       record {
         kept = subst (λ (x : MailboxValue). IsKept f (begun_after t items) x.inboxes.inboxes) (sym hands.2) go.kept;
         some = subst (λ (ms : List (List ℕ)). AreSomeOf ms (messages_from t items)) (sym out) go.whole;
       }
 
-  take_goes : (waiting : Option Letter) {answer : Handed} {now : ℕ} {before after : List ℕ} {m k : MailboxValue} {e g : EndpointValue} (h : TakesInto waiting answer now before after m k e g) → m.waiting ≡ waiting → (t : Option (List ℕ)) → IsKept f t m.inboxes.inboxes → MailGoes (letters_of answer after) waiting k t (all_read f (reads_into n waiting h))
-  take_goes (Some letter) {answer} {after} {m} {k} h is t kept =
-      let all : messages_for f (letters_of answer after) ++ waiting_for f k.waiting ≡ waiting_for f (Some letter) ++ [] = hands_out h.0 ∙ ap (waiting_for f) is ∙ sym (append-nil (waiting_for f (Some letter))) in
+  take_goes : (waiting : Option Letter) (answer : Handed) (now : ℕ) (before after : List ℕ) (m k : MailboxValue) (e g : EndpointValue) (h : TakesInto waiting answer now before after m k e g) → m.waiting ≡ waiting → (t : Option (List ℕ)) → IsKept f t m.inboxes.inboxes → MailGoes (letters_of answer after) waiting k t (all_read f (reads_into n waiting answer now before after m k e g h))
+  take_goes (Some letter) answer now before after m k e g h is t kept =
+      let all : messages_for f (letters_of answer after) ++ waiting_for f k.waiting ≡ waiting_for f (Some letter) ++ [] = hands_out answer before after m k h.0 ∙ ap (waiting_for f) is ∙ sym (append-nil (waiting_for f (Some letter))) in
       record { kept = subst (λ (x : MailboxValue). IsKept f t x.inboxes.inboxes) (sym h.0.2) kept; some = some_of_same _ _ all }
-  take_goes None {m} h is t kept = fetched_goes h.fetched h.fetches h.hands is t kept
+  take_goes None answer now before after m k e g h is t kept = fetched_goes h.fetched answer now before after m h.between k e g h.fetches h.hands is t kept
 
   for_append : (xs ys : List Letter) → messages_for f (xs ++ ys) ≡ messages_for f xs ++ messages_for f ys
   for_append [] ys = refl
@@ -220,8 +221,8 @@ module _ (f : Flow) (n : ℕ) where
   mails_go {m} (hears flow rest) t kept = mails_go rest t (kept_heard f flow t m.inboxes kept)
   mails_go {m} (forgets flow rest) t kept = mails_go rest t (kept_without f flow t m.inboxes kept)
   mails_go {m} (takes {steps} {letters} now answer before after k e g there h rest) t kept =
-      let go = take_goes m.waiting h refl t kept in
-      let reads = reads_into n m.waiting h in
+      let go = take_goes m.waiting answer now before after m k e g h refl t kept in
+      let reads = reads_into n m.waiting answer now before after m k e g h in
       let xs = all_read f reads in
       let ys = all_read f steps in
       let out = letters_of answer after in

@@ -1,4 +1,4 @@
 mod Kept
 mod Pieces
-mod Reads
+mod Finding
 mod Handing

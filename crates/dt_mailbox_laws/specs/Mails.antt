@@ -12,7 +12,7 @@ use Rattle.dt_inbox.specs.declared.mailboxes.Handed.{Handed}
 use Rattle.dt_inbox.specs.declared.mailboxes.Handed.TheVariants as handed
 use Rattle.dt_inbox.specs.declared.mailboxes.Letter.{Letter}
 use Rattle.dt_inbox.specs.Inboxes.{Ends, JoinerTakes, ReadsOn, most_reads, no_read, one_more}
-use Rattle.dt_inbox.specs.FlowInboxes.{FlowInboxesValue, PassesOn, TakesAny, TakesFrom, TakesNext, heard, no_pass, without}
+use Rattle.dt_inbox.specs.FlowInboxes.{FlowInboxesValue, PassesOn, TakesAny, TakesFrom, TakesNext, heard, no_pass, piece_room, without}
 use Rattle.dt_inbox.specs.FlowInboxes as passes
 use Rattle.dt_inbox.specs.Mailboxes.{Fetches, MailboxValue, TakesInto, new_mailbox}
 use Rattle.dt_network.specs.Network.{Network}
@@ -56,21 +56,21 @@ abbrev pub reads_passed : (node : ℕ) {now : ℕ} {v : FlowInboxesValue} {e : E
 reads_passed n no_pass = []
 reads_passed n (passes.one_more answer before last none) = reads_passed n before ++ reads_from n last
 
-abbrev pub reads_any : (node : ℕ) (answer : Option (Flow × TakenMessage)) {now room : ℕ} {v w : FlowInboxesValue} {e f : EndpointValue} → TakesAny answer now room v w e f → List Step
-reads_any n None h = []
-reads_any n (Some answer) h = reads_from n h
+abbrev pub reads_any : (node : ℕ) (answer : Option (Flow × TakenMessage)) (now room : ℕ) (v w : FlowInboxesValue) (e f : EndpointValue) → TakesAny answer now room v w e f → List Step
+reads_any n None now room v w e f h = []
+reads_any n (Some answer) now room v w e f h = reads_from n h
 
 abbrev pub reads_next : (node : ℕ) {answer : Option (Flow × TakenMessage)} {now : ℕ} {v w : FlowInboxesValue} {e f : EndpointValue} → TakesNext answer now v w e f → List Step
-reads_next n {answer} h = reads_passed n h.passes ++ reads_any n answer h.last
+reads_next n {answer} {now} {w} {f} h = reads_passed n h.passes ++ reads_any n answer now piece_room h.before w h.host f h.last
 
 -- of a take of the mailbox: none where a message waited
 abbrev pub reads_fetched : (node : ℕ) (fetched : Option Handed) (now : ℕ) (m k : MailboxValue) (e f : EndpointValue) → Fetches fetched now m k e f → List Step
 reads_fetched n (Some why) now m k e f h = reads_next n h.0.takes
 reads_fetched n None now m k e f h = reads_next n h.1.takes
 
-abbrev pub reads_into : (node : ℕ) (waiting : Option Letter) {answer : Handed} {now : ℕ} {before after : List ℕ} {m k : MailboxValue} {e f : EndpointValue} → TakesInto waiting answer now before after m k e f → List Step
-reads_into n (Some letter) h = []
-reads_into n None {now} {m} {e} {f} h = reads_fetched n h.fetched now m h.between e f h.fetches
+abbrev pub reads_into : (node : ℕ) (waiting : Option Letter) (answer : Handed) (now : ℕ) (before after : List ℕ) (m k : MailboxValue) (e f : EndpointValue) → TakesInto waiting answer now before after m k e f → List Step
+reads_into n (Some letter) answer now before after m k e f h = []
+reads_into n None answer now before after m k e f h = reads_fetched n h.fetched now m h.between e f h.fetches
 
 -- THE MESSAGE that is handed out: so many octets at the head of the buffer
 abbrev pub letters_of : Handed → (after : List ℕ) → List Letter
@@ -90,7 +90,7 @@ pub data Mails (n : ℕ) (g : Flow) : MailboxValue → Network → List Step →
   hears : {m : MailboxValue} {net : Network} {steps : List Step} {letters : List Letter} (flow : Flow) → Mails n g (record m { inboxes = heard flow m.inboxes }) net steps letters → Mails n g m net steps letters
   forgets : {m : MailboxValue} {net : Network} {steps : List Step} {letters : List Letter} (flow : Flow) → Mails n g (record m { inboxes = without flow m.inboxes }) net steps letters → Mails n g m net steps letters
   takes : {m : MailboxValue} {net : Network} {steps : List Step} {letters : List Letter} (now : ℕ) (answer : Handed) (before after : List ℕ) (k : MailboxValue) (e f : EndpointValue) → look ◌==◌ n net.endpoints ≡ Some e → (h : TakesInto m.waiting answer now before after m k e f)
-      → Mails n g k (network_by (reads_into n m.waiting h) net) steps letters → Mails n g m net (reads_into n m.waiting h ++ steps) (letters_of answer after ++ letters)
+      → Mails n g k (network_by (reads_into n m.waiting answer now before after m k e f h) net) steps letters → Mails n g m net (reads_into n m.waiting answer now before after m k e f h ++ steps) (letters_of answer after ++ letters)
 
 -- the messages of a flow among letters
 abbrev pub octets_if : Bool → List ℕ → List (List ℕ)
