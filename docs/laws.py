@@ -26,6 +26,7 @@ OCTETS = ("dt_network::what_is_read_is_what_was_sent",)
 LEDGER = ("dt_network::reports_tell_a_safe_ledger", "dt_network::what_was_settled_was_accepted")
 WORLD = ("dt_network::network_is_a_world",)
 MESSAGES = ("dt_service_laws::whole_messages_come_once_and_in_order.network",)
+MAILBOX = ("dt_mailbox_laws::mailbox_hands_out_messages_once_and_in_order",)
 SERVICES = (
     "dt_service_laws::requests_are_calls_once_and_in_their_order",
     "dt_service_laws::names_are_called_handed_out_and_replied_to_once.handed_out",
@@ -47,8 +48,13 @@ CLAIMS = (
         OCTETS + LEDGER + WORLD + MESSAGES + SERVICES,
     ),
     Claim(HEADER, "The laws assume more than these duties."),
+    Claim(
+        HEADER,
+        "that is within the laws if each datagram takes 1 ms at least and charges are 1 ms longer than delays.",
+        OCTETS + WORLD,
+    ),
     Claim(HEADER, "no law says that this suffices"),
-    Claim(HEADER, "The law of messages, each once and in order (dt_service_laws)", MESSAGES),
+    Claim(HEADER, "By the laws of messages", MESSAGES + MAILBOX),
     Claim(
         HEADER,
         "a request is handed out at most once, requests of a flow are handed out in the order in which they were "
@@ -71,13 +77,21 @@ CLAIMS = (
     ),
     Claim(LIBRARY, "This follows from the second law.", LEDGER[1:]),
     Claim(LIBRARY, "Beside the calls there is a world of the definitions in which every node is its station.", WORLD),
-    Claim(LIBRARY, "Another law, of dt_service_laws, is about whole messages.", MESSAGES),
+    Claim(LIBRARY, "Two more laws are about whole messages.", MESSAGES + MAILBOX),
     Claim(
         LIBRARY,
-        "Messages that a program joins from its reads by the definition were sent, each at most once, in order.",
+        "Messages that a program joins from its reads by the definition were sent, each at most once, in order "
+        "(dt_service_laws).",
         MESSAGES,
     ),
-    Claim(LIBRARY, "The law is about reads.", MESSAGES),
+    Claim(
+        LIBRARY,
+        "And so are the messages that a mailbox hands out of a flow that it alone reads, over any calls "
+        "(dt_mailbox_laws).",
+        MAILBOX,
+    ),
+    Claim(LIBRARY, "The laws stand in crates above the library's.", OCTETS + MESSAGES + MAILBOX),
+    Claim(LIBRARY, "`./build --only dt_c` proves the functions", OCTETS + MESSAGES + MAILBOX),
     Claim(LIBRARY, "laws hold of networks of services", SERVICES),
     Claim(LIBRARY, "The others are part of the premises of the laws."),
     Claim(LIBRARY, "The laws say nothing of a program that keeps only the duties."),

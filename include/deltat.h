@@ -69,8 +69,9 @@
  *
  * The laws assume more than these duties. Outside the following they say nothing:
  *   - The clocks of two nodes differ by a constant whole number of milliseconds, over restarts too.
- *     Two machines round differently, and a clock that begins at a reboot begins anew. Charges are
- *     made longer to pay for rounding and drift (docs/premises.md), but no law says that this
+ *     Two machines round differently: that is within the laws if each datagram takes 1 ms at least
+ *     and charges are 1 ms longer than delays. A clock that drifts, or begins anew at a reboot,
+ *     isn't. Charges are made longer to pay for drift (docs/premises.md), but no law says that this
  *     suffices.
  *   - The parameters are equal including `start`.
  *   - Every opening of a node but its first uses DT_START_AGAIN.
@@ -466,9 +467,10 @@ uint64_t dt_node_wake(dt_node *node);
 /* ---- 8 MESSAGES ----
  *
  * Whole messages, put together from what is read. Each that is returned has all octets from its
- * begin mark to its end mark. The law of messages, each once and in order (dt_service_laws), is
- * about reads that a program joins by these rules; that dt_node_next_message finds every message
- * isn't proved. */
+ * begin mark to its end mark. By the laws of messages, those of a flow that is read by no other
+ * call were sent, each comes at most once, and they come in order (dt_mailbox_laws; of reads that a
+ * program joins itself, dt_service_laws). That dt_node_next_message finds every message isn't
+ * proved. */
 
 /* Enables dt_node_next_message, for messages of at most `longest` octets. A longer one is dropped
  * and counted in `dropped_too_long`, and the next message of its flow has `gap`. The begun part of

@@ -1,5 +1,5 @@
 mod Frames
-mod Outcomes
+pub mod Outcomes
 mod Pieces
 mod Worlds
 mod Events

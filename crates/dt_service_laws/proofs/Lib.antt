@@ -1,6 +1,6 @@
-mod Orders
-mod Wholes
-mod Pieces
+pub mod Orders
+pub mod Wholes
+pub mod Pieces
 mod Readings
 mod Halting
 mod Flows

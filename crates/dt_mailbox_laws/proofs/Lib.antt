@@ -1,0 +1,4 @@
+mod Kept
+mod Pieces
+mod Finding
+mod Handing
