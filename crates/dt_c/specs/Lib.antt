@@ -3,4 +3,5 @@ pub mod CStructs
 pub mod Calls
 pub mod Networks
 pub mod ServiceStructs
+pub mod Users
 pub mod Serving
