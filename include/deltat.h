@@ -596,7 +596,7 @@ dt_status dt_node_get_flow_counts(dt_node *node, const struct dt_flow *flow,
  *               serve(&token, buf, event.len);          // dt_service_reply now or later, in any
  *                                                       // order; DT_FULL: try again later
  *           else if (event.kind != DT_EVENT_REPLY_UNCERTAIN)
- *               call_has_ended(&event, buf);            // the call with this number
+ *               call_has_ended(&event, buf);            // the call that had event.user
  *       }
  *       send_service_datagrams(service);
  *       if (!is_running) break;                         // stopped: each call has had its event
@@ -647,9 +647,9 @@ struct dt_reply_result {
 
 enum dt_event_kind {
     DT_EVENT_REQUEST = 1,  /* answer it: `call`, `flow`, and `len` octets of payload */
-    DT_EVENT_ANSWERED = 2, /* your call ended with `len` octets of answer: `call` */
+    DT_EVENT_ANSWERED = 2, /* your call ended with `len` octets of answer: `call`, `user` */
     DT_EVENT_UNSURE = 3,   /* it ended without: it was served once or not at all, or still will be:
-                              `call`, `cause` */
+                              `call`, `user`, `cause` */
     DT_EVENT_REPLY_UNCERTAIN = 4 /* replies to requests of `flow` were given up: each was delivered
                               once or not at all, and its caller gets no report. Reported again for
                               this flow only after this event was taken */
@@ -666,6 +666,7 @@ struct dt_event {
     uint8_t kind;        /* enum dt_event_kind */
     uint8_t cause;       /* enum dt_cause, else 0 */
     uint64_t call;
+    uint64_t user;       /* what you passed to dt_service_call for the call that ended; else 0 */
     size_t len;
     struct dt_flow flow; /* of a request, or of the requests of uncertain replies; else 0 */
 };
@@ -712,11 +713,13 @@ struct dt_open_result dt_service_open(dt_service *service, const struct dt_param
  *   DT_EXISTS     the port has a kind */
 dt_status dt_service_set_port(dt_service *service, uint16_t port, uint8_t kind);
 
-/* Makes a call on a flow from a caller's port. It ends, by an event with its number, in the
- * first call with a `now` of `timeout_ms` or more after this one, at the latest.
+/* Makes a call on a flow from a caller's port. It ends, by an event with its number and with `user`
+ * (a pointer, an index, or 0: the library doesn't look at it), in the first call with a `now` of
+ * `timeout_ms` or more after this one, at the latest.
  *   DT_OK              `call` is its number
  *   DT_NO_MEMORY       the service is stopped. The call may have been made, so take it as unsure;
- *                      if it was, an event says so
+ *                      if it was, an event with `user` says so. Where there was no memory for
+ *                      `user` itself, nothing changed, and the service goes on
  *   DT_NOT_OPEN
  *   DT_STOPPED         nothing changed
  *   DT_INVALID         `invalid` says why; nothing changed
@@ -725,7 +728,8 @@ dt_status dt_service_set_port(dt_service *service, uint16_t port, uint8_t kind);
  *   DT_QUIET           the node is silent until `quiet_until`; nothing was sent
  *   DT_FULL            the flow has `free` octets left; nothing was sent */
 struct dt_call_result dt_service_call(dt_service *service, uint64_t now, const struct dt_flow *flow,
-                                      const uint8_t *payload, size_t len, uint32_t timeout_ms);
+                                      const uint8_t *payload, size_t len, uint32_t timeout_ms,
+                                      uint64_t user);
 
 /* Replies to a request, once.
  *   DT_OK         the node has taken the reply, and the request is closed

@@ -464,10 +464,12 @@ public:
     Status set_port(std::uint16_t port, PortKind kind) noexcept {
         return does(dt_service_set_port, port, static_cast<std::uint8_t>(kind));
     }
-    CallResult call(std::uint64_t now, const Flow &flow, Octets payload, std::uint32_t timeout_ms) noexcept {
+    // `user` comes back in the event that ends the call
+    CallResult call(
+        std::uint64_t now, const Flow &flow, Octets payload, std::uint32_t timeout_ms, std::uint64_t user = 0) noexcept {
         if (!handle_) return {};
         const auto it =
-            dt_service_call(handle_.get(), now, &flow, detail::pointer(payload), payload.size(), timeout_ms);
+            dt_service_call(handle_.get(), now, &flow, detail::pointer(payload), payload.size(), timeout_ms, user);
         return {
             {detail::status_of(it.status)}, it.call, it.free, it.quiet_until, static_cast<InvalidReason>(it.invalid)};
     }

@@ -15,6 +15,7 @@ these fails, and with 77 where there is no library:
   log that the library told. It is left out where there is no program (./build).
 - asynchronous: in a loop of asyncio a service answers four clients' messages over such a link, a sender waits for room
   while its messages aren't read, and who waits when it is closed is told.
+- users: of two calls under way each ends with what it was given, in another order than they were made.
 - services: a service of two ports answers 30 calls over such a link, each once; a call that nobody replies to is unsure;
   a service is told of a reply to a client that is away; 100 calls at once in a loop of asyncio are answered, and one that waits when it is closed is unsure.
 - examples: examples/echo.py asks itself, and examples/echo.c, which is compiled first, at the ports that they name; and
@@ -387,6 +388,25 @@ def service_of(number: int, ports: dict[int, deltat.PortKind]) -> deltat.Service
     return service
 
 
+def users() -> bool:
+    """Whether each of two calls under way ends with what it was given, in whatever order they end, and none that isn't made has an end."""
+    flow, given = deltat.Flow(1, 10, 2, 20), {b"first": 2**64 - 1, b"second": 7}
+    client, server = service_of(1, {10: deltat.PortKind.CALLER}), service_of(2, {20: deltat.PortKind.SERVICE})
+    at = deltat.now()
+    numbers = {client.call(flow, payload, 1000, at=at, user=user): payload for payload, user in given.items()}
+    right = refused(deltat.InvalidArgument, lambda: client.call(flow, b"", 1000, user=2**64)) and refused(deltat.InvalidArgument, lambda: client.call(flow, b"", 0, user=8))
+    for it in client.datagrams():
+        server.receive(1, it.octets, at=at)
+    for request in list(server.events())[1:]:
+        server.reply(request.token, request.payload, at=at)
+    for it in server.datagrams():
+        client.receive(1, it.octets, at=at)
+    client.tick(at + 1000)
+    ends = list(client.events())
+    right = [type(it) for it in ends] == [deltat.Answered, deltat.UnsureCall] and right
+    return all(it.user == given[numbers[it.call]] for it in ends) and not list(client.events()) and right
+
+
 def unsure(cause: deltat.Cause, call: object, *words: object) -> bool:
     """Whether a call is unsure for this cause."""
     try:
@@ -592,7 +612,7 @@ def examples() -> bool:
 
 def main() -> int:
     words = sys.argv[2:] if named else sys.argv[1:]
-    tests = {"refusals": refusals, "whole": whole, "simulated": simulated, "processes": processes, "asynchronous": asynchronous, "recorded": recorded, "services": services, "examples": examples}
+    tests = {"refusals": refusals, "whole": whole, "simulated": simulated, "processes": processes, "asynchronous": asynchronous, "recorded": recorded, "users": users, "services": services, "examples": examples}
     failed = 0
     for name in words or tests:
         begun = time.monotonic()

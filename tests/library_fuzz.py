@@ -61,7 +61,7 @@ class Source(NamedTuple):
     spoils: int
 
 
-SOURCES = [Source("nodes", "fuzz.c", "spoil.c", 11), Source("services", "fuzz_service.c", "spoil_service.c", 11)]
+SOURCES = [Source("nodes", "fuzz.c", "spoil.c", 11), Source("services", "fuzz_service.c", "spoil_service.c", 12)]
 
 
 def run(words: Sequence[str | pathlib.Path], **more: object) -> "subprocess.CompletedProcess[str]":

@@ -169,18 +169,23 @@ class Half:
 
     def __init__(self, deltat: types.ModuleType, node: object) -> None:
         self.deltat, self.node = deltat, node
+        # what each call was given whose end wasn't taken
+        self.users: dict[int, int] = {}
 
     def port(self, port: int, kind: str) -> None:
         self.node.set_port(port, self.deltat.PortKind[kind.upper()])
 
     def call(self, at: int, flow: Flow, payload: bytes, patience: int) -> tuple[object, ...]:
         try:
-            return "made", self.node.call(flow, payload, patience, at=at)
+            user = hash((at, flow, payload)) % 2**64
+            number = self.node.call(flow, payload, patience, at=at, user=user)
         except self.deltat.Declined as why:
             word = self.DECLINED[why.status.name]
             return "declined", word, *([why.until] if word == "quiet" else [why.free] if word == "full" else [])
         except self.deltat.InvalidArgument:
             return ("refused",)
+        self.users[number] = user
+        return "made", number
 
     def reply(self, at: int, token: Token, payload: bytes) -> tuple[object, ...]:
         return self._said(self.node.reply, self.deltat.Token(*token), payload, at)
@@ -223,12 +228,16 @@ class Half:
             if isinstance(it, self.deltat.Request):
                 told.append(("request", Token(Flow(*it.token.flow), it.token.call), it.payload))
             elif isinstance(it, self.deltat.Answered):
-                told.append(("answered", it.call, it.answer))
+                told.append(("answered", it.call, it.answer, *self._other_user(it)))
             elif isinstance(it, self.deltat.ReplyUncertain):
                 told.append(("doubtful", Flow(*it.flow)))
             else:
-                told.append(("unsure", it.call, self.CAUSES[it.cause.name]))
+                told.append(("unsure", it.call, self.CAUSES[it.cause.name], *self._other_user(it)))
         return told
+
+    def _other_user(self, end: object) -> list[str]:
+        """What the model never tells, where the end of a call isn't given what the call was."""
+        return [] if self.users.pop(end.call, None) == end.user else ["with another user"]
 
 
 WORLD_CHARGE = 30

@@ -140,7 +140,7 @@ struct dt_send_result dtu_core_send(struct core *core, uint64_t now, const struc
 struct dt_call_result dtu_core_call(struct core *core, uint64_t now, const struct dt_flow *flow,
                                     const struct iovec *octets, uint32_t timeout_ms) {
     struct dt_call_result it =
-        dt_service_call(core->service, now, flow, octets->iov_base, octets->iov_len, timeout_ms);
+        dt_service_call(core->service, now, flow, octets->iov_base, octets->iov_len, timeout_ms, 0);
     kept(core, it.status);
     return it;
 }

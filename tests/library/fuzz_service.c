@@ -76,7 +76,8 @@ static struct call *call_of(const struct dt_flow *flow, uint64_t number) {
     return NULL;
 }
 
-/* what the program hands over with a call, and gets back with its end */
+/* what is passed with a call */
+static uint64_t user_of(size_t call) { return 0xFEDCBA9800000001u + 7 * (uint64_t)call; }
 
 /* a call of this opening of a node */
 static struct call *own_call(const struct node *n, uint64_t number) {
@@ -105,7 +106,7 @@ static size_t tokens(const struct node *n, const struct dt_flow *flow) {
 
 static void is_handed_out(struct node *n, const struct dt_event *it, const uint8_t *octets) {
     struct call *call = call_of(&it->flow, it->call);
-    WANT(it->flow.target == name_of(n) && it->flow.source != it->flow.target && it->cause == 0);
+    WANT(it->flow.target == name_of(n) && it->flow.source != it->flow.target && it->cause == 0 && it->user == 0);
     if (!keeps_duties) {
         /* a payload that was changed may have the name of any call */
         if (call != NULL) call->was_handed_out = call->is_token = true, call->served_by = n->openings;
@@ -121,7 +122,7 @@ static void is_handed_out(struct node *n, const struct dt_event *it, const uint8
 
 static void is_answered(struct node *n, const struct dt_event *it, const uint8_t *octets) {
     struct call *call = own_call(n, it->call);
-    WANT(call != NULL && call->fate == WAITS && is_no_flow(&it->flow) && it->cause == 0);
+    WANT(call != NULL && call->fate == WAITS && is_no_flow(&it->flow) && it->cause == 0 && it->user == user_of((size_t)(call - calls)));
     call->fate = ANSWERED;
     if (!keeps_duties) return;
     WANT(call->was_replied && call->reply_len == it->len);
@@ -130,7 +131,7 @@ static void is_answered(struct node *n, const struct dt_event *it, const uint8_t
 
 static void is_unsure(struct node *n, const struct dt_event *it) {
     struct call *call = own_call(n, it->call);
-    WANT(call != NULL && call->fate == WAITS && is_no_flow(&it->flow) && it->len == 0);
+    WANT(call != NULL && call->fate == WAITS && is_no_flow(&it->flow) && it->len == 0 && it->user == user_of((size_t)(call - calls)));
     WANT(it->cause == DT_CAUSE_GIVEN_UP || it->cause == DT_CAUSE_TIMEOUT || it->cause == DT_CAUSE_STOPPED);
     if (it->cause == DT_CAUSE_TIMEOUT) WANT(n->judged >= call->due);
     WANT((it->cause == DT_CAUSE_STOPPED) <= n->is_spent);
@@ -150,18 +151,18 @@ static bool takes_event(struct node *n) {
     }
     free(small);
     WANT(status == DT_OK || (status == DT_BUFFER_TOO_SMALL && one.len >= 1 && one.len <= DT_MAX_PAYLOAD));
-    WANT(status == DT_OK || (one.kind == 0 && one.call == 0 && is_no_flow(&one.flow)));
+    WANT(status == DT_OK || (one.kind == 0 && one.call == 0 && one.user == 0 && is_no_flow(&one.flow)));
     size_t len = one.len;
     uint8_t *octets = block(len + BEHIND), *twin = block(len);
     memset(octets, 0xEE, len + BEHIND);
     if (status != DT_OK) WANT(dt_service_next_event(n->handle[0], octets, len + BEHIND, &one) == DT_OK);
     WANT(dt_service_next_event(n->handle[1], twin, len, &other) == DT_OK && one.len == len && other.len == len && is_same(octets, twin, len));
-    WANT(one.call == other.call && one.kind == other.kind && one.cause == other.cause && is_flow(&one.flow, &other.flow));
+    WANT(one.call == other.call && one.user == other.user && one.kind == other.kind && one.cause == other.cause && is_flow(&one.flow, &other.flow));
     for (size_t i = len; i < len + BEHIND; i++) WANT(octets[i] == 0xEE);
     happens(one.kind * 4u + one.cause);
     if (one.kind == DT_EVENT_REQUEST) is_handed_out(n, &one, octets);
     else if (one.kind == DT_EVENT_ANSWERED) is_answered(n, &one, octets);
-    else if (one.kind == DT_EVENT_REPLY_UNCERTAIN) WANT(one.flow.target == name_of(n) && one.flow.source != one.flow.target && one.call == 0 && one.len == 0);
+    else if (one.kind == DT_EVENT_REPLY_UNCERTAIN) WANT(one.flow.target == name_of(n) && one.flow.source != one.flow.target && one.call == 0 && one.user == 0 && one.len == 0);
     else {
         WANT(one.kind == DT_EVENT_UNSURE);
         is_unsure(n, &one);
@@ -297,18 +298,37 @@ static size_t longest(const struct node *n) { return n->params.cap < NAME ? 0 : 
 
 static bool is_caller(const struct dt_flow *flow) { return flow->source_port < PORTS; }
 
+static bool is_stopped(dt_service *s, uint64_t moment) {
+    const struct dt_token nobody = {0, {0, 0, 0, 0}};
+    return dt_service_reply(s, moment, &nobody, NULL, 0).status == DT_STOPPED;
+}
+
 static void makes_call(struct node *n, const struct dt_flow *flow, size_t len, uint32_t timeout) {
     if (call_count == MOST_CALLS) return;
     size_t pending = waiting(n);
     uint64_t moment = moment_of(n);
     uint8_t *payload = block(len);
     for (size_t i = 0; i < len; i++) payload[i] = asked_octet(call_count, i);
-#define CALL(side) dt_service_call(side, moment, flow, payload, len, timeout)
+    uint64_t user = user_of(call_count);
+#define CALL(side) dt_service_call(side, moment, flow, payload, len, timeout, user)
     struct dt_call_result one, other = {0, 0, 0, 0, 0};
     BOTH(CALL, one, other, FIELD)
 #undef CALL
     free(payload);
     uint8_t status = one.status;
+    if (has_changed_nothing(status)) {
+        /* each call sees to it that there is room for `user`, one that is refused too: so the second side gets one that is refused for another reason */
+        wanted = asked;
+        may_fail(&wanted);
+        dt_service_call(n->handle[1], moment, flow, NULL, 0, 0, 0);
+        found_memory(&wanted);
+    }
+    if (status == DT_NO_MEMORY && !is_stopped(n->handle[0], moment)) {
+        /* there was no memory for `user`: nothing changed */
+        WANT(!found && n->is_open && !n->is_spent && one.call == 0);
+        looks_on(n);
+        return;
+    }
     bool is_wrong = flow->source != name_of(n) || flow->target == flow->source, is_long = n->params.cap < NAME || len > longest(n), is_quiet = n->is_again && counted(n, moment) < n->until;
     const bool whys[] = {[0] = false, [DT_INVALID_FLOW] = is_wrong, [DT_INVALID_PORT] = !is_caller(flow), [DT_INVALID_LENGTH] = is_long, [DT_INVALID_TIMEOUT] = timeout == 0, [DT_INVALID_TOTAL] = false};
     WANT(status == DT_INVALID ? one.invalid >= DT_INVALID_FLOW && one.invalid <= DT_INVALID_TOTAL && whys[one.invalid] : one.invalid == 0);

@@ -137,7 +137,7 @@ void a_call_is_answered(const deltat::NetworkParams &its) {
     WANT(client.set_port(10, deltat::PortKind::Caller) == Status::Ok &&
          server.set_port(20, deltat::PortKind::Service) == Status::Ok);
     WANT(client.call(0, FLOW, {}, 0).invalid == deltat::InvalidReason::Timeout);
-    const auto first = client.call(0, FLOW, deltat::octets_of("ask", 3), 1000),
+    const auto first = client.call(0, FLOW, deltat::octets_of("ask", 3), 1000, 41),
                second = client.call(0, FLOW, {}, 1000);
     WANT(first && second && second.call == first.call + 1 &&
          client.call(0, FLOW, {}, 1000).status == Status::TooManyCalls);
@@ -152,11 +152,11 @@ void a_call_is_answered(const deltat::NetworkParams &its) {
     WANT(carry(server, client, 2) > 0);
     const auto end = client.next_event(buffer);
     WANT(end && end->event_kind() == deltat::EventKind::Answered && end->call == first.call &&
-         !std::memcmp(buffer.data(), "answer", 6));
+         end->user == 41 && !std::memcmp(buffer.data(), "answer", 6));
     WANT(client.stop() == Status::Ok);
     const auto unsure = client.next_event(buffer);
     WANT(unsure && unsure->event_kind() == deltat::EventKind::Unsure && unsure->why() == deltat::Cause::Stopped &&
-         !client.wake());
+         unsure->user == 0 && !client.wake());
     WANT(client.call_counts()->late_replies == 0 && server.counts() && server.set_life(5) == Status::Exists);
 }
 

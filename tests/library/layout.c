@@ -143,13 +143,14 @@ AT(dt_reply_result, free, 0);
 AT(dt_reply_result, status, 4);
 AT(dt_reply_result, invalid, 5);
 
-SIZE(dt_event, 40);
+SIZE(dt_event, 48);
 AT(dt_event, size, 0);
 AT(dt_event, kind, 4);
 AT(dt_event, cause, 5);
 AT(dt_event, call, 8);
-AT(dt_event, len, 16);
-AT(dt_event, flow, 24);
+AT(dt_event, user, 16);
+AT(dt_event, len, 24);
+AT(dt_event, flow, 32);
 
 SIZE(dt_call_counts, 64);
 AT(dt_call_counts, size, 0);

@@ -82,7 +82,7 @@ static void peer_turns(uint64_t until) {
             uint8_t octets[16];
             SIZED(dt_event, event);
             dt_service_tick(caller, moment);
-            if (sent < CALLS && moment % 50 == 0) sent += dt_service_call(caller, moment, &FLOW, ask, 1, 20000).status == DT_OK;
+            if (sent < CALLS && moment % 50 == 0) sent += dt_service_call(caller, moment, &FLOW, ask, 1, 20000, 0).status == DT_OK;
             while (dt_service_next_event(caller, octets, sizeof octets, &event) == DT_OK) {
                 struct dt_token token = {event.call, event.flow};
                 if (event.kind == DT_EVENT_REQUEST) WANT(dt_service_reply(caller, moment, &token, octets, event.len).status == DT_OK);
@@ -103,7 +103,7 @@ static void wait_for_datagram(uint64_t wake) {
     if (peer != NULL && taken == MESSAGES) stopped = 1;
     if (caller != NULL && served == CALLS && ended == 1) {
         const uint8_t ask[1] = {8};
-        if (!stopped) WANT(dt_service_call(service, moment, &BACK, ask, 1, 20000).status == DT_OK && dt_service_stop(service) == DT_OK);
+        if (!stopped) WANT(dt_service_call(service, moment, &BACK, ask, 1, 20000, 0).status == DT_OK && dt_service_stop(service) == DT_OK);
         stopped = 1;
     }
 }
@@ -209,7 +209,7 @@ static void runs_service(void) {
     moment = queued = sent = stopped = 0;
     service = service_of(2, 11, 20);
     caller = service_of(1, 10, 21);
-    WANT(dt_service_call(service, 0, &BACK, ask, 1, 20000).status == DT_OK);
+    WANT(dt_service_call(service, 0, &BACK, ask, 1, 20000, 0).status == DT_OK);
 #include "service_loop.inc"
     WANT(served == CALLS && ended == 2 && stopped);
     dt_service_free(service);

@@ -25,7 +25,7 @@ void rattle_dealloc(uint8_t *p);
 }
 #endif
 
-static unsigned long fail_at, requests;
+static unsigned long fail_at, requests, goes_on;
 static long held;
 
 static struct tried tried(void *p) {
@@ -53,6 +53,9 @@ void rattle_dealloc(uint8_t *p) {
 }
 
 enum { LINK = 7, CALLS = 6, MOST = 3000 };
+
+/* what is passed with the call of a count */
+static uint64_t user_of(uint32_t count) { return 0xFEDCBA9800000001u + 7 * (uint64_t)count; }
 
 static const struct dt_params params = {sizeof params, 1000, 3000, 200, 500, 800, 1000, 4096, 4096, 4096, 2147483648u, 0};
 static const struct dt_flow flow = {1, 2, 10, 20};
@@ -108,20 +111,20 @@ static bool carry(dt_service *from, dt_service *to, uint64_t now) {
     }
 }
 
-static bool is_unsure(dt_service *s, uint64_t call, uint8_t cause) {
+static bool is_unsure(dt_service *s, uint64_t call, uint8_t cause, uint64_t user) {
     struct next it = next(s);
-    return it.event.kind == DT_EVENT_UNSURE && it.event.call == call && it.event.cause == cause && carries(&it, came, 0);
+    return it.event.kind == DT_EVENT_UNSURE && it.event.call == call && it.event.cause == cause && it.event.user == user && carries(&it, came, 0);
 }
 
-static struct dt_call_result calls(dt_service *s, uint64_t now, size_t len, uint32_t timeout) {
-    return dt_service_call(s, now, &flow, payload, len, timeout);
+static struct dt_call_result calls(dt_service *s, uint64_t now, size_t len, uint32_t timeout, uint64_t user) {
+    return dt_service_call(s, now, &flow, payload, len, timeout, user);
 }
 
 static void a_closed_handle_says_so(dt_service *s) {
     SIZED(dt_node_counts, counts);
     SIZED(dt_call_counts, dropped);
     WANT(dt_service_tick(s, 0) == DT_NOT_OPEN && dt_service_set_port(s, 10, DT_PORT_CALLER) == DT_NOT_OPEN);
-    WANT(calls(s, 0, 1, 9).status == DT_NOT_OPEN && next(s).status == DT_NOT_OPEN);
+    WANT(calls(s, 0, 1, 9, 1).status == DT_NOT_OPEN && next(s).status == DT_NOT_OPEN);
     WANT(dt_service_get_call_counts(s, &dropped) == DT_NOT_OPEN && dt_service_get_counts(s, &counts) == DT_NOT_OPEN);
     WANT(dt_service_set_life(s, 6) == DT_NOT_OPEN && dt_service_stop(s) == DT_NOT_OPEN && dt_service_wake(s) == DT_NEVER);
 }
@@ -136,7 +139,7 @@ static uint64_t both_open(dt_service *client, dt_service *server) {
     WANT(opens(client, 1, true) == DT_OK && opens(client, 1, false) == DT_EXISTS && opens(server, 2, false) == DT_OK);
     ports(client);
     ports(server);
-    struct dt_call_result made = calls(client, 100, 1, 300);
+    struct dt_call_result made = calls(client, 100, 1, 300, 1);
     WANT(made.status == DT_QUIET && made.quiet_until == 100 + dt_params_quiet_ms(&params) && made.call == 0);
     return made.quiet_until;
 }
@@ -145,28 +148,28 @@ static uint64_t both_open(dt_service *client, dt_service *server) {
 static void calls_are_made_or_declined(dt_service *client, uint64_t now) {
     const uint64_t first = (uint64_t)5 << 32;
     const struct dt_flow back = {2, 1, 20, 10}, plain = {1, 2, 11, 20};
-    WANT(dt_service_call(client, now, &back, payload, 1, 9).invalid == DT_INVALID_FLOW);
-    WANT(dt_service_call(client, now, &plain, payload, 1, 9).invalid == DT_INVALID_PORT);
-    WANT(dt_service_call(client, now, &flow, frame, 4089, 9).invalid == DT_INVALID_LENGTH);
-    struct dt_call_result made = calls(client, now, 1, 0);
+    WANT(dt_service_call(client, now, &back, payload, 1, 9, 2).invalid == DT_INVALID_FLOW);
+    WANT(dt_service_call(client, now, &plain, payload, 1, 9, 3).invalid == DT_INVALID_PORT);
+    WANT(dt_service_call(client, now, &flow, frame, 4089, 9, 4).invalid == DT_INVALID_LENGTH);
+    struct dt_call_result made = calls(client, now, 1, 0, 5);
     WANT(made.status == DT_INVALID && made.invalid == DT_INVALID_TIMEOUT);
-    made = calls(client, now, MOST, 3000);
+    made = calls(client, now, MOST, 3000, user_of(0));
     WANT(made.status == DT_OK && made.call == first);
-    made = calls(client, now, MOST, 3000);
+    made = calls(client, now, MOST, 3000, 6);
     WANT(made.status == DT_FULL && made.free == 4096 - 8 - MOST);
-    WANT(calls(client, now, 1, 300).status == DT_OK);
-    WANT(calls(client, now, 1, 300).status == DT_TOO_MANY_CALLS);
+    WANT(calls(client, now, 1, 300, user_of(1)).status == DT_OK);
+    WANT(calls(client, now, 1, 300, 7).status == DT_TOO_MANY_CALLS);
 }
 
 /* The first request is answered, and the second one is forgotten. */
 static void requests_are_served(dt_service *server, uint64_t now) {
     struct dt_token token = {(uint64_t)5 << 32, flow};
     SIZED(dt_event, event);
-    WANT(dt_service_next_event(server, came, MOST - 1, &event) == DT_BUFFER_TOO_SMALL && event.len == MOST);
+    WANT(dt_service_next_event(server, came, MOST - 1, &event) == DT_BUFFER_TOO_SMALL && event.len == MOST && event.user == 0);
     event.size--;
     WANT(dt_service_next_event(server, came, MOST, &event) == DT_INVALID);
     struct next it = next(server);
-    WANT(it.event.kind == DT_EVENT_REQUEST && it.event.call == token.call && carries(&it, payload, MOST));
+    WANT(it.event.kind == DT_EVENT_REQUEST && it.event.call == token.call && it.event.user == 0 && carries(&it, payload, MOST));
     WANT(it.event.flow.source == 1 && it.event.flow.target_port == 20);
     WANT(dt_service_reply(server, now, &token, frame, 4089).invalid == DT_INVALID_LENGTH);
     WANT(dt_service_reply(server, now, &token, payload, 7).status == DT_OK && dt_service_reply(server, now, &token, payload, 7).status == DT_GONE);
@@ -181,10 +184,10 @@ static void a_stop_ends_calls(dt_service *client, uint64_t now) {
     SIZED(dt_node_counts, counts);
     SIZED(dt_call_counts, dropped);
     WANT(dt_service_set_life(client, 5) == DT_EXISTS && dt_service_set_life(client, 6) == DT_OK);
-    struct dt_call_result made = calls(client, now, 1, 300);
+    struct dt_call_result made = calls(client, now, 1, 300, 8);
     WANT(made.call == (uint64_t)6 << 32 && dt_service_set_life(client, 6) == DT_EXISTS && dt_service_stop(client) == DT_OK);
-    WANT(is_unsure(client, made.call, DT_CAUSE_STOPPED) && next(client).status == DT_NONE);
-    WANT(dt_service_tick(client, now) == DT_STOPPED && calls(client, now, 1, 9).status == DT_STOPPED);
+    WANT(is_unsure(client, made.call, DT_CAUSE_STOPPED, 8) && next(client).status == DT_NONE);
+    WANT(dt_service_tick(client, now) == DT_STOPPED && calls(client, now, 1, 9, 9).status == DT_STOPPED);
     WANT(dt_service_get_call_counts(client, &dropped) == DT_OK && memcmp(&dropped, &none, sizeof none) == 0);
     WANT(dt_service_get_counts(client, &counts) == DT_OK && counts.datagrams_refused == 0);
     WANT(dt_service_get_blocked_counts(client).closed_port == 0 && dt_service_wake(client) == DT_NEVER);
@@ -201,10 +204,10 @@ static void answers(dt_service *client, dt_service *server) {
     requests_are_served(server, now);
     WANT(!carry(server, client, now));
     struct next it = next(client);
-    WANT(it.event.kind == DT_EVENT_ANSWERED && it.event.call == first && carries(&it, payload, 7));
+    WANT(it.event.kind == DT_EVENT_ANSWERED && it.event.call == first && it.event.user == user_of(0) && carries(&it, payload, 7));
     WANT(next(client).status == DT_NONE && dt_service_wake(client) <= now + 300);
     WANT(dt_service_tick(client, now + 299) == DT_OK && next(client).status == DT_NONE);
-    WANT(dt_service_tick(client, now + 300) == DT_OK && is_unsure(client, first + 1, DT_CAUSE_TIMEOUT));
+    WANT(dt_service_tick(client, now + 300) == DT_OK && is_unsure(client, first + 1, DT_CAUSE_TIMEOUT, user_of(1)));
     a_stop_ends_calls(client, now + 300);
 }
 
@@ -221,7 +224,7 @@ static void replies_are_uncertain(dt_service *client, dt_service *server) {
     WANT(opens(client, 1, false) == DT_OK && opens(server, 2, false) == DT_OK);
     ports(client);
     ports(server);
-    for (unsigned i = 0; i < 2; i++) WANT(calls(client, now, 1, 60000).status == DT_OK);
+    for (unsigned i = 0; i < 2; i++) WANT(calls(client, now, 1, 60000, i + 1).status == DT_OK);
     WANT(!carry(client, server, now));
     while ((it = next(server)).status == DT_OK) {
         struct dt_token token = {it.event.call, it.event.flow};
@@ -232,7 +235,7 @@ static void replies_are_uncertain(dt_service *client, dt_service *server) {
         lose(server);
     }
     it = next(server);
-    WANT(it.event.kind == DT_EVENT_REPLY_UNCERTAIN && it.event.call == 0 && it.event.cause == 0 && carries(&it, came, 0));
+    WANT(it.event.kind == DT_EVENT_REPLY_UNCERTAIN && it.event.call == 0 && it.event.user == 0 && it.event.cause == 0 && carries(&it, came, 0));
     WANT(it.event.flow.source == 1 && it.event.flow.target == 2 && it.event.flow.source_port == 10 && it.event.flow.target_port == 20);
     WANT(next(server).status == DT_NONE && dt_service_tick(server, now) == DT_OK && next(server).status == DT_NONE);
     WANT(dt_service_stop(client) == DT_OK && dt_service_stop(server) == DT_OK);
@@ -244,7 +247,7 @@ static void ends(dt_service *s, bool *has_end, unsigned made, bool broke) {
     while ((it = next(s)).status == DT_OK) {
         if (it.event.kind == DT_EVENT_REQUEST || it.event.kind == DT_EVENT_REPLY_UNCERTAIN) continue;
         uint32_t count = (uint32_t)it.event.call;
-        WANT(count < made + broke && !has_end[count]);
+        WANT(count < made + broke && !has_end[count] && it.event.user == user_of(count));
         has_end[count] = true;
     }
     WANT(it.status == DT_NONE);
@@ -264,6 +267,25 @@ static bool replies_fail(dt_service *server, uint64_t now, bool has_failed) {
     return fails;
 }
 
+static bool is_stopped(dt_service *s, uint64_t now) {
+    const struct dt_token other = {0, flow};
+    return dt_service_reply(s, now, &other, payload, 1).status == DT_STOPPED;
+}
+
+/* Makes a call. Where there is no memory for its user alone nothing changed, and it is made when it is asked again. */
+static dt_status call_made(dt_service *s, uint64_t now, unsigned made) {
+    SIZED(dt_node_counts, before);
+    SIZED(dt_node_counts, after);
+    WANT(dt_service_get_counts(s, &before) == DT_OK);
+    struct dt_call_result it = calls(s, now, 500, 900, user_of(made));
+    if (it.status != DT_NO_MEMORY || is_stopped(s, now)) return it.status;
+    goes_on++;
+    WANT(it.call == 0 && dt_service_get_counts(s, &after) == DT_OK && memcmp(&before, &after, sizeof before) == 0);
+    it = calls(s, now, 500, 900, user_of(made));
+    WANT(it.status == DT_OK && it.call == ((uint64_t)5 << 32 | made));
+    return it.status;
+}
+
 /* Calls and replies, until a service finds no memory. Whether one did: then it is closed. */
 static bool exchange_fails(dt_service *client, dt_service *server) {
     bool has_end[CALLS + 1] = {false};
@@ -275,7 +297,7 @@ static bool exchange_fails(dt_service *client, dt_service *server) {
     ports(server);
     bool fails = false;
     for (uint64_t now = 100; now < 3000 && !fails; now += 100) {
-        dt_status status = made < CALLS ? calls(client, now, 500, 900).status : (dt_status)DT_TOO_MANY_CALLS;
+        dt_status status = made < CALLS ? call_made(client, now, made) : (dt_status)DT_TOO_MANY_CALLS;
         WANT(status == DT_OK || status == DT_TOO_MANY_CALLS || status == DT_NO_MEMORY);
         made += status == DT_OK;
         fails = status == DT_NO_MEMORY || carry(client, server, now);
@@ -320,7 +342,7 @@ int main(void) {
         WANT(held == 0);
     } while (requests >= fail_at);
     printf("each of %lu requests for memory failed in turn, and %lu were told\n", fail_at - 1, told);
-    WANT(told > 10);
+    WANT(told > 10 && goes_on > 0);
     free(client);
     free(server);
     return 0;

@@ -1,4 +1,4 @@
-/* A library whose services' answers are spoilt in the way that the variable SPOIL names, 1 to 11: linked between
+/* A library whose services' answers are spoilt in the way that the variable SPOIL names, 1 to 12: linked between
    fuzz_service.c and the library by --wrap, so that it can be seen that fuzz_service.c finds fault with each. 0 spoils
    nothing. */
 #include "deltat.h"
@@ -17,8 +17,8 @@ dt_status __real_dt_service_next_event(dt_service *s, uint8_t *buf, size_t room,
 dt_status __wrap_dt_service_next_event(dt_service *s, uint8_t *buf, size_t room, struct dt_event *out);
 uint64_t __real_dt_service_wake(dt_service *s);
 uint64_t __wrap_dt_service_wake(dt_service *s);
-struct dt_call_result __real_dt_service_call(dt_service *s, uint64_t now, const struct dt_flow *f, const uint8_t *payload, size_t len, uint32_t timeout);
-struct dt_call_result __wrap_dt_service_call(dt_service *s, uint64_t now, const struct dt_flow *f, const uint8_t *payload, size_t len, uint32_t timeout);
+struct dt_call_result __real_dt_service_call(dt_service *s, uint64_t now, const struct dt_flow *f, const uint8_t *payload, size_t len, uint32_t timeout, uint64_t user);
+struct dt_call_result __wrap_dt_service_call(dt_service *s, uint64_t now, const struct dt_flow *f, const uint8_t *payload, size_t len, uint32_t timeout, uint64_t user);
 struct dt_reply_result __real_dt_service_reply(dt_service *s, uint64_t now, const struct dt_token *t, const uint8_t *payload, size_t len);
 struct dt_reply_result __wrap_dt_service_reply(dt_service *s, uint64_t now, const struct dt_token *t, const uint8_t *payload, size_t len);
 dt_status __real_dt_service_next_datagram(dt_service *s, uint8_t *buf, size_t room, struct dt_datagram *out);
@@ -34,6 +34,7 @@ dt_status __wrap_dt_service_next_event(dt_service *s, uint8_t *buf, size_t room,
     if (spoils(1) && out->kind == DT_EVENT_REQUEST && out->len > 2) buf[out->len / 2] ^= 1;
     if (spoils(2) && out->kind == DT_EVENT_ANSWERED && out->len > 2) buf[out->len / 2] ^= 1;
     if (spoils(4) && out->kind == DT_EVENT_UNSURE) out->cause = DT_CAUSE_TIMEOUT;
+    if (spoils(12) && out->kind == DT_EVENT_UNSURE) out->user--;
     if (spoils(5)) ((volatile uint8_t *)buf)[room] = 0;
     return status;
 }
@@ -43,8 +44,8 @@ uint64_t __wrap_dt_service_wake(dt_service *s) {
     return spoils(6) && it != DT_NEVER ? it + 100 : it;
 }
 
-struct dt_call_result __wrap_dt_service_call(dt_service *s, uint64_t now, const struct dt_flow *f, const uint8_t *payload, size_t len, uint32_t timeout) {
-    struct dt_call_result it = __real_dt_service_call(s, now, f, payload, len, spoils(7) ? timeout / 2 + 1 : timeout);
+struct dt_call_result __wrap_dt_service_call(dt_service *s, uint64_t now, const struct dt_flow *f, const uint8_t *payload, size_t len, uint32_t timeout, uint64_t user) {
+    struct dt_call_result it = __real_dt_service_call(s, now, f, payload, len, spoils(7) ? timeout / 2 + 1 : timeout, user);
     if (spoils(8) && it.status == DT_FULL) it.status = DT_OK;
     return it;
 }

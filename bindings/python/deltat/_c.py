@@ -375,6 +375,7 @@ class Event(ctypes.Structure):
         ("kind", ctypes.c_uint8),
         ("cause", ctypes.c_uint8),
         ("call", ctypes.c_uint64),
+        ("user", ctypes.c_uint64),
         ("len", ctypes.c_size_t),
         ("flow", Flow),
     ]
@@ -560,6 +561,7 @@ FUNCTIONS: dict[str, tuple[Any, list[Any]]] = {
             ctypes.c_void_p,
             ctypes.c_size_t,
             ctypes.c_uint32,
+            ctypes.c_uint64,
         ],
     ),
     "dt_service_reply": (

@@ -80,17 +80,20 @@ class Request(NamedTuple):
 
 
 class Answered(NamedTuple):
-    """The end of a call: its number and the answer."""
+    """The end of a call: its number, the answer, and what `call` was given as its user."""
 
     call: int
     answer: bytes
+    user: int = 0
 
 
 class UnsureCall(NamedTuple):
-    """The end of a call that was served once or not at all, or still will be: its number, and why it ended."""
+    """The end of a call that was served once or not at all, or still will be: its number, why it ended, and what `call`
+    was given as its user."""
 
     call: int
     cause: Cause
+    user: int = 0
 
 
 class ReplyUncertain(NamedTuple):
@@ -182,13 +185,16 @@ class Service(AnyNode):
     def _read_ports(self) -> Sequence[int]:
         return list(self._kinds)
 
-    def call(self, flow: Flow, payload: bytes, timeout_ms: int, at: int | None = None) -> int:
-        """Makes a call that ends within `timeout_ms`, 1 to 4,294,967,295, and returns its number, which its end has
-        too. Raises Declined, InvalidArgument or Stopped, and then nothing was sent. OutOfMemory: the node is stopped, and the call may have been made; if it was, `events` has its end."""
+    def call(self, flow: Flow, payload: bytes, timeout_ms: int, at: int | None = None, user: int = 0) -> int:
+        """Makes a call that ends within `timeout_ms`, 1 to 4,294,967,295, and returns its number. Its end has the
+        number and `user`, any number of 64 bits. Raises Declined, InvalidArgument or Stopped, and then nothing was
+        sent. OutOfMemory: the call may have been made; if it was, `events` has its end. The node is stopped, unless
+        there was no memory for `user`: then nothing changed."""
         octets = octets_of(payload)
         in_range(timeout_ms, 32, "timeout_ms")
+        in_range(user, 64, "user")
         made = library.dt_service_call(
-            self._handle, self._noted(at), flow_to_c(flow), octets, len(octets), timeout_ms
+            self._handle, self._noted(at), flow_to_c(flow), octets, len(octets), timeout_ms, user
         )
         if made.status != Status.OK:
             self._decline(flow, made)
@@ -250,12 +256,12 @@ class Service(AnyNode):
 
     def _taken(self, it: _c.Event) -> Event:
         if it.kind == EventKind.UNSURE:
-            return UnsureCall(it.call, Cause(it.cause))
+            return UnsureCall(it.call, Cause(it.cause), it.user)
         if it.kind == EventKind.REPLY_UNCERTAIN:
             return ReplyUncertain(flow_from_c(it.flow))
         octets = ctypes.string_at(self._room, it.len)
         if it.kind == EventKind.ANSWERED:
-            return Answered(it.call, octets)
+            return Answered(it.call, octets, it.user)
         return Request(Token(flow_from_c(it.flow), it.call), octets)
 
     def stop(self) -> None:

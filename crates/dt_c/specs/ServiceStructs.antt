@@ -21,7 +21,7 @@ use Rattle.dt_service_model.specs.declared.names.CallNumber.{CallNumber}
 use Rattle.dt_service_model.specs.declared.names.Token.{Token}
 use Rattle.dt_service_model.specs.declared.ports.PortKind.{PortKind}
 use Rattle.dt_service_model.specs.declared.ports.PortKind.TheVariants.{Caller, Service}
-use Rattle.dt_service_model.specs.Names.{call_number, number_of, number_with}
+use Rattle.dt_service_model.specs.Names.{from_u64, to_u64, number_with}
 use Rattle.dt_c.specs.declared.c_structs.CFlow.{CFlow}
 use Rattle.dt_c.specs.declared.service_structs.CCallCounts.{CCallCounts}
 use Rattle.dt_c.specs.declared.service_structs.Event.{Event}
@@ -47,7 +47,7 @@ abbrev pub service_options_size : ℕ
 service_options_size = 20
 
 abbrev pub event_size : ℕ
-event_size = 40
+event_size = 48
 
 abbrev pub call_counts_size : ℕ
 call_counts_size = 64
@@ -57,7 +57,7 @@ abbrev pub start_of : NodeOptions → ServiceOptions → ServiceStart
 start_of o s = record { me = node o.node; again = again_of o; life = s.life; most = record { calls = s.max_calls; requests = s.max_requests; of_a_flow = s.max_requests_per_flow } }
 
 abbrev pub token_of : CToken → Token
-token_of t = record { flow = flow_of t.flow; number = call_number t.call }
+token_of t = record { flow = flow_of t.flow; number = from_u64 t.call }
 
 abbrev pub kind_of : ℕ → Option PortKind
 kind_of number = if number == 1 then Some Caller else (if number == 2 then Some Service else None)
@@ -92,7 +92,7 @@ declined_result declined.Numbers = called_as life_used_up
 declined_result declined.Many = called_as too_many_calls
 
 abbrev pub call_result : Made → CallResult
-call_result (made.Call number) = called_with (number_of number) 0 0 ok 0
+call_result (made.Call number) = called_with (to_u64 number) 0 0 ok 0
 call_result (made.Declined why) = declined_result why
 call_result (made.Refused unfit) = called_with 0 0 0 (invalid_status unfit) (invalid_number unfit)
 call_result made.NoMemory = called_as no_memory
@@ -115,14 +115,14 @@ forgot_status forgot.Done = ok
 forgot_status forgot.Gone = gone
 forgot_status forgot.NoMemory = no_memory
 
--- WHAT HAPPENED, without the size of its struct
+-- WHAT HAPPENED, without the size of its struct and the user of the call that ends
 abbrev pub cause_number : Cause → ℕ
 cause_number cause.GivenUp = 1
 cause_number cause.Patience = 2
 cause_number cause.Closed = 3
 
 abbrev pub event_with : (kind cause : ℕ) → CallNumber → CFlow → (len : ℕ) → Event
-event_with kind cause number flow len = record { size = 0; kind = kind; cause = cause; call = number_of number; len = len; flow = flow }
+event_with kind cause number flow len = record { size = 0; kind = kind; cause = cause; call = to_u64 number; user = 0; len = len; flow = flow }
 
 abbrev pub event : Happening → Event
 event (Request token payload) = event_with 1 0 token.number (c_flow token.flow) (length payload)
@@ -131,12 +131,12 @@ event (Unsure call cause) = event_with 3 (cause_number cause) call no_flow 0
 event (ReplyUncertain flow) = event_with 4 0 (number_with 0 0) (c_flow flow) 0
 
 -- what the caller's struct has of it
-abbrev pub event_in : Happening → Event → Event
-event_in happening out = record (event happening) { size = out.size }
+abbrev pub event_in : Happening → (user : ℕ) → Event → Event
+event_in happening user out = record (event happening) { size = out.size; user = user }
 
 -- so many octets want room
 abbrev pub event_without_room : (len : ℕ) → Event → Event
-event_without_room len out = record { size = out.size; kind = 0; cause = 0; call = 0; len = len; flow = no_flow }
+event_without_room len out = record { size = out.size; kind = 0; cause = 0; call = 0; user = 0; len = len; flow = no_flow }
 
 -- HOW MANY MESSAGES WERE DROPPED
 abbrev pub call_counts : CallCounts → CCallCounts → CCallCounts

@@ -1,5 +1,5 @@
 -- The calls of the library on a handle of a service. Each answers that the handle holds none and changes nothing, or is the call of its service.
-use Rattle.std.specs.Prelude.{◌≡◌, ◌⊎◌, ℕ, nat_le, Bool, true, false, ◌&&◌, ◌==◌, List, if◌then◌else◌, is_some, length, map, Option, Some, None, IsNone, IsSome}
+use Rattle.std.specs.Prelude.{◌≡◌, ◌⊎◌, ◌<◌, ◌≤◌, ◌^◌, ℕ, nat_le, Bool, true, false, ◌&&◌, ◌==◌, List, if◌then◌else◌, is_some, length, map, MatchOption, Option, Some, None, IsNone, IsSome}
 use Rattle.dt_units.specs.declared.parameters.Params.{Params}
 use Rattle.dt_units.specs.Limits.{IsWithinLimits, first_out_of_range, value_of}
 use Rattle.dt_endpoint.specs.declared.answers.Received.{Received}
@@ -15,10 +15,11 @@ use Rattle.dt_service_model.specs.declared.answers.Made.{Made}
 use Rattle.dt_service_model.specs.declared.answers.Replied.{Replied}
 use Rattle.dt_service_model.specs.declared.happenings.Happening.{Happening}
 use Rattle.dt_service_model.specs.declared.ports.PortKind.{PortKind}
-use Rattle.dt_service_model.specs.Asked.{is_life_in_use, raised, with_kind}
+use Rattle.dt_service_model.specs.declared.names.CallNumber.{CallNumber}
+use Rattle.dt_service_model.specs.Asked.{is_closed, is_life_in_use, next_number, raised, with_kind}
 use Rattle.dt_service_model.specs.Ends.{close, next}
-use Rattle.dt_service_model.specs.Halves.{kind_in, new_halves}
-use Rattle.dt_service_model.specs.Turns.{Node, wake, with_halves}
+use Rattle.dt_service_model.specs.CallBook.{CallBook, kind_in, new_book}
+use Rattle.dt_service_model.specs.Turns.{Node, wake, with_book}
 use Rattle.dt_service.specs.Calls as service
 use Rattle.dt_service_model.specs.Carrying.{carried_by}
 use Rattle.dt_c.specs.declared.c_structs.ReceiveResult.{ReceiveResult}
@@ -40,28 +41,29 @@ use Rattle.dt_c.specs.declared.service_structs.ServiceOptions.{ServiceOptions}
 use Rattle.dt_c.specs.declared.service_structs.CToken.{CToken}
 use Rattle.dt_c.specs.declared.service_slots.ServiceSlot.{ServiceSlot}
 use Rattle.dt_c.specs.Calls.{Filling, IsSet, PartGoesOn, buf_after, chosen, datagram_after, frame_status, frames_after, over}
-use Rattle.dt_c.specs.CStructs.{blocked, blocked_counts, buffer_too_small, datagram_size, exists, flow_of, in_link, invalid, is_fit, no_memory, node_counts, node_counts_size, none, not_open, ok, open_result, out_link, params_of, receive_result, received_as, route, routed_status, ticked_status, wake_time}
+use Rattle.dt_c.specs.CStructs.{blocked, blocked_counts, buffer_too_small, datagram_size, exists, flow_of, in_link, invalid, is_fit, no_memory, node_counts, node_counts_size, none, not_open, ok, open_result, out_link, params_of, receive_result, received_as, route, routed_status, stopped, ticked_status, wake_time}
+use Rattle.dt_c.specs.Users.{Ends, Keeps, Users, no_users, number_ended, number_kept, user_ended}
 use Rattle.dt_c.specs.ServiceStructs.{call_counts, call_counts_size, call_result, called_as, event_in, event_size, event_without_room, forgot_status, kind_of, replied_as, reply_result, service_options_size, start_of, token_of}
 
 abbrev pub empty_service : ServiceSlot
-empty_service = record { service = None; guard = open_guard }
+empty_service = record { service = None; guard = open_guard; users = no_users }
 
--- the service goes on, and its guard stays as it is
+-- the service goes on, and its guard and what was given with its calls stay as they are
 abbrev pub ServiceGoesOn : ServiceSlot → ServiceSlot → Type 0 → (Node → Node → Type 0) → Type 0
-ServiceGoesOn s t without does = PartGoesOn s.service t.service without does × (t.guard ≡ s.guard)
+ServiceGoesOn s t without does = PartGoesOn s.service t.service without does × (t.guard ≡ s.guard) × (t.users ≡ s.users)
 
 -- AN OPENING
 abbrev pub service_started : Params → NodeOptions → ServiceOptions → Node
 service_started p o so =
     let start = start_of o so in
-    record { endpoint = opened p start.me.0 start.again (map out_link o.links.now) (map in_link o.links.now) (map route o.routes.now); halves = new_halves start.most start.life }
+    record { endpoint = opened p start.me.0 start.again (map out_link o.links.now) (map in_link o.links.now) (map route o.routes.now); book = new_book start.most start.life }
 
 -- the options of the service too have the size that is known here
 abbrev pub is_service_fit : CParams → NodeOptions → ServiceOptions → Bool
 is_service_fit p o so = is_fit p o && (so.size == service_options_size)
 
 abbrev pub ServiceOpens : Opened → CParams → NodeOptions → ServiceOptions → ServiceSlot → ServiceSlot → Type 0
-ServiceOpens opens.Done p o so s t = (is_service_fit p o so ≡ true) × IsNone s.service × IsWithinLimits (params_of p) × (t ≡ record s { service = Some (service_started (params_of p) o so) })
+ServiceOpens opens.Done p o so s t = (is_service_fit p o so ≡ true) × IsNone s.service × IsWithinLimits (params_of p) × (t ≡ record s { service = Some (service_started (params_of p) o so); users = no_users })
 ServiceOpens opens.NoMemory p o so s t = (is_service_fit p o so ≡ true) × IsNone s.service × IsWithinLimits (params_of p) × (t ≡ s)
 ServiceOpens opens.Held p o so s t = (is_service_fit p o so ≡ true) × IsSome s.service × (t ≡ s)
 ServiceOpens opens.Unfit p o so s t = (is_service_fit p o so ≡ false) × (t ≡ s)
@@ -73,14 +75,28 @@ ServiceOpening row p o so s t = (answer : Opened) × (row ≡ open_result answer
 -- A PORT GETS ITS KIND
 abbrev pub GetsKind : (status port : ℕ) → Option PortKind → (n m : Node) → Type 0
 GetsKind status port None n m = (status ≡ invalid) × (m ≡ n)
-GetsKind status port (Some kind) n m = ((status ≡ (if is_some (kind_in port n.halves.ports) then exists else ok)) × (m ≡ with_halves (with_kind port kind) n)) ⊎ ((status ≡ no_memory) × (m ≡ n))
+GetsKind status port (Some kind) n m = ((status ≡ (if is_some (kind_in port n.book.ports) then exists else ok)) × (m ≡ with_book (with_kind port kind) n)) ⊎ ((status ≡ no_memory) × (m ≡ n))
 
 abbrev pub Porting : (status port kind : ℕ) → ServiceSlot → ServiceSlot → Type 0
 Porting status port kind s t = ServiceGoesOn s t (status ≡ not_open) (GetsKind status port (kind_of kind))
 
 -- CALLS AND REPLIES
-abbrev pub Calling : CallResult → (now : ℕ) → CFlow → List ℕ → (patience : ℕ) → ServiceSlot → ServiceSlot → Type 0
-Calling row now flow payload patience s t = ServiceGoesOn s t (row ≡ called_as not_open) (λ n m. (answer : Made) × (row ≡ call_result answer) × service.Calls answer now (flow_of flow) payload patience n m)
+-- A call that is made keeps what it is given, and so does one that may have been made before there was no memory
+abbrev pub IsNext : Option CallNumber → CallBook → Type 0
+IsNext next h = MatchOption next (2 ^ 32 ≤ h.count) (λ number. (h.count < 2 ^ 32) × (number ≡ next_number h))
+
+abbrev pub KeepsUser : Made → (user : ℕ) → (us vs : Users) → CallBook → Type 0
+KeepsUser answer user us vs h = (next : Option CallNumber) × IsNext next h × Keeps (number_kept answer next) user us vs
+
+-- where there is no memory for what it is given nothing changes: a node that was closed says so, and another one goes on
+abbrev pub CallsWith : CallResult → (now : ℕ) → CFlow → List ℕ → (patience user : ℕ) → (us vs : Users) → Node → Node → Type 0
+CallsWith row now flow payload patience user us vs n m =
+    ((row ≡ called_as (if is_closed n then stopped else no_memory)) × (m ≡ n) × (vs ≡ us))
+    ⊎ ((answer : Made) × (row ≡ call_result answer) × service.Calls answer now (flow_of flow) payload patience n m × KeepsUser answer user us vs n.book)
+
+abbrev pub Calling : CallResult → (now : ℕ) → CFlow → List ℕ → (patience user : ℕ) → ServiceSlot → ServiceSlot → Type 0
+Calling row now flow payload patience user s t =
+    PartGoesOn s.service t.service ((row ≡ called_as not_open) × (t.users ≡ s.users)) (CallsWith row now flow payload patience user s.users t.users) × (t.guard ≡ s.guard)
 
 abbrev pub Replying : ReplyResult → (now : ℕ) → CToken → List ℕ → ServiceSlot → ServiceSlot → Type 0
 Replying row now token payload s t = ServiceGoesOn s t (row ≡ replied_as not_open) (λ n m. (answer : Replied) × (row ≡ reply_result answer) × service.Replies answer now (token_of token) payload n m)
@@ -99,7 +115,7 @@ ServiceArrivesAt TooManyFlows row now link octets waited n m = (row ≡ received
 
 abbrev pub ServiceArriving : ReceiveResult → (now link : ℕ) → List ℕ → (waited : ℕ) → ServiceSlot → ServiceSlot → Type 0
 ServiceArriving row now link octets waited s t = PartGoesOn s.service t.service ((row ≡ received_as not_open) × (t.guard ≡ s.guard)) (λ n m. let found = admission n.endpoint.state.host s.guard octets in
-    ServiceArrivesAt found row now link octets waited n m × (t.guard ≡ guard_after found s.guard))
+    ServiceArrivesAt found row now link octets waited n m × (t.guard ≡ guard_after found s.guard)) × (t.users ≡ s.users)
 
 -- WHAT HAPPENED: the next of it, where the buffer has room for what it carries. Else it goes on waiting, and its size is told.
 abbrev pub has_room : Happening → List ℕ → Bool
@@ -109,9 +125,9 @@ abbrev pub event_status : Option Happening → List ℕ → ℕ
 event_status None buf = none
 event_status (Some happening) buf = if has_room happening buf then ok else buffer_too_small
 
-abbrev pub event_after : Option Happening → List ℕ → Event → Event
-event_after None buf out = out
-event_after (Some happening) buf out = if has_room happening buf then event_in happening out else event_without_room (length (carried_by happening)) out
+abbrev pub event_after : Option Happening → List ℕ → (user : ℕ) → Event → Event
+event_after None buf user out = out
+event_after (Some happening) buf user out = if has_room happening buf then event_in happening user out else event_without_room (length (carried_by happening)) out
 
 abbrev pub buffer_with : Option Happening → List ℕ → List ℕ
 buffer_with None buf = buf
@@ -119,26 +135,37 @@ buffer_with (Some happening) buf = if has_room happening buf then over (carried_
 
 abbrev pub taken_from : Option Happening → List ℕ → Node → Node
 taken_from None buf n = n
-taken_from (Some happening) buf n = if has_room happening buf then record n { halves = (next n.halves).1 } else n
+taken_from (Some happening) buf n = if has_room happening buf then record n { book = (next n.book).1 } else n
 
-abbrev pub TakesEvent : (status : ℕ) → (before after : List ℕ) → (old new : Event) → Node → Node → Type 0
-TakesEvent status before after old new n m = let first = (next n.halves).0 in
-    (status ≡ event_status first before) × (after ≡ buffer_with first before) × (new ≡ event_after first before old) × (m ≡ taken_from first before n)
+-- its user: what was given with the call that it ends, or 0 where it ends none. That is kept no more once it is taken
+abbrev pub user_first : Option Happening → Users → ℕ
+user_first None us = 0
+user_first (Some happening) us = user_ended (number_ended happening) us
+
+abbrev pub UsersAfter : Option Happening → List ℕ → (us vs : Users) → Type 0
+UsersAfter None buf us vs = vs ≡ us
+UsersAfter (Some happening) buf us vs = Ends (if has_room happening buf then number_ended happening else None) us vs
+
+abbrev pub TakesEvent : (status : ℕ) → (before after : List ℕ) → (old new : Event) → (us vs : Users) → Node → Node → Type 0
+TakesEvent status before after old new us vs n m = let first = (next n.book).0 in
+    (status ≡ event_status first before) × (after ≡ buffer_with first before) × (new ≡ event_after first before (user_first first us) old) × (m ≡ taken_from first before n)
+    × UsersAfter first before us vs
 
 abbrev pub NextEvent : (status : ℕ) → (before after : List ℕ) → (old new : Event) → ServiceSlot → ServiceSlot → Type 0
 NextEvent status before after old new s t = let unfilled = (after ≡ before) × (new ≡ old) in
-    Filling event_size old.size status s t unfilled (ServiceGoesOn s t ((status ≡ not_open) × unfilled) (λ n m. TakesEvent status before after old new n m))
+    Filling event_size old.size status s t unfilled (PartGoesOn s.service t.service ((status ≡ not_open) × unfilled × (t.users ≡ s.users))
+    (λ n m. TakesEvent status before after old new s.users t.users n m) × (t.guard ≡ s.guard))
 
 -- A LIFE IS RAISED
 abbrev pub Raises : (status life : ℕ) → (n m : Node) → Type 0
-Raises status life n m = (status ≡ (if is_life_in_use life n.halves then exists else ok)) × (m ≡ with_halves (raised life) n)
+Raises status life n m = (status ≡ (if is_life_in_use life n.book then exists else ok)) × (m ≡ with_book (raised life) n)
 
 abbrev pub Raising : (status life : ℕ) → ServiceSlot → ServiceSlot → Type 0
 Raising status life s t = ServiceGoesOn s t (status ≡ not_open) (Raises status life)
 
 -- THE SERVICE STOPS
 abbrev pub Stopping : (status : ℕ) → ServiceSlot → ServiceSlot → Type 0
-Stopping status s t = ServiceGoesOn s t (status ≡ not_open) (λ n m. (status ≡ ok) × (m ≡ with_halves close n))
+Stopping status s t = ServiceGoesOn s t (status ≡ not_open) (λ n m. (status ≡ ok) × (m ≡ with_book close n))
 
 -- FRAMES, ROUTES, THE GUARD AND COUNTS are the endpoint's
 abbrev pub HandsFrame : (status : ℕ) → (before after : List ℕ) → (old new : Datagram) → Node → Node → Type 0
@@ -158,10 +185,10 @@ abbrev pub ServiceWaking : (time : ℕ) → ServiceSlot → ServiceSlot → Type
 ServiceWaking time s t = (time ≡ wake_time (service_wake s.service)) × (t ≡ s)
 
 abbrev pub ServiceAddingRoute : (status : ℕ) → CRoute → ServiceSlot → ServiceSlot → Type 0
-ServiceAddingRoute status r s t = ServiceGoesOn s t (status ≡ not_open) (λ n m. ((answer : Routed) × (status ≡ routed_status answer) × AddsRoute answer (route r) n.endpoint m.endpoint) × (m.halves ≡ n.halves))
+ServiceAddingRoute status r s t = ServiceGoesOn s t (status ≡ not_open) (λ n m. ((answer : Routed) × (status ≡ routed_status answer) × AddsRoute answer (route r) n.endpoint m.endpoint) × (m.book ≡ n.book))
 
 abbrev pub ServiceGuarding : (status : ℕ) → List ℕ → (all : Bool) → (most : ℕ) → ServiceSlot → ServiceSlot → Type 0
-ServiceGuarding status ports all most s t = PartGoesOn s.service t.service ((status ≡ not_open) × (t.guard ≡ s.guard)) (λ n m. (m ≡ n) × IsSet status (chosen all ports) most s.guard t.guard)
+ServiceGuarding status ports all most s t = PartGoesOn s.service t.service ((status ≡ not_open) × (t.guard ≡ s.guard)) (λ n m. (m ≡ n) × IsSet status (chosen all ports) most s.guard t.guard) × (t.users ≡ s.users)
 
 abbrev pub ServiceKeptOut : BlockedCounts → ServiceSlot → ServiceSlot → Type 0
 ServiceKeptOut row s t = (row ≡ blocked_counts s.guard) × (t ≡ s)
@@ -175,7 +202,7 @@ ServiceCounting status old new s t = Filling node_counts_size old.size status s 
 
 abbrev pub CallCounts : (status : ℕ) → (old new : CCallCounts) → Option Node → Type 0
 CallCounts status old new None = (status ≡ not_open) × (new ≡ old)
-CallCounts status old new (Some n) = (status ≡ ok) × (new ≡ call_counts n.halves.counts old)
+CallCounts status old new (Some n) = (status ≡ ok) × (new ≡ call_counts n.book.counts old)
 
 abbrev pub CallCounting : (status : ℕ) → (old new : CCallCounts) → ServiceSlot → ServiceSlot → Type 0
 CallCounting status old new s t = Filling call_counts_size old.size status s t (new ≡ old) (CallCounts status old new s.service × (t ≡ s))

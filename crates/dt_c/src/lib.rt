@@ -3,6 +3,7 @@
 #![tactic(auto)]
 
 mod c_structs;
+mod call_users;
 mod calls;
 mod drive_exports;
 mod flow_exports;

@@ -1,14 +1,16 @@
 //! The calls, on what a handle of a service holds.
-ghost use Rattle.std.specs.Prelude.{◌≡◌, IfOk};
+ghost use Rattle.std.specs.Prelude.{◌≡◌, IfOk, if◌then◌else◌};
+ghost use Rattle.dt_c.specs.CStructs.{no_memory, stopped};
 ghost use Rattle.dt_c.specs.Serving.{CallCounting, Calling, Forgetting, GetsKind, HandsFrame, NextEvent, Porting, Raises, Raising, Replying, ServiceAddingRoute, ServiceArriving, ServiceCounting, ServiceGuarding, ServiceKeptOut, ServiceNextFrame, ServiceOpening, ServiceOpens, ServiceTicking, ServiceWaking, Stopping, empty_service, is_service_fit, service_started};
 ghost use Rattle.dt_c.specs.ServiceStructs.{kind_of};
 
 use crate::c_structs::{
     BLOCKED, BUFFER_TOO_SMALL, BlockedCounts, CFlow, CParams, CRoute, DATAGRAM_SIZE, Datagram,
     EXISTS, INVALID, NO_MEMORY, NODE_COUNTS_SIZE, NONE, NOT_OPEN, NodeCounts, NodeOptions, OK,
-    OpenResult, Opened, ReceiveResult, blocked_counts, fill_datagram, fill_node_counts, has_room,
-    open_result, receive_result, received_as, routed_status, ticked_status, wake_time,
+    OpenResult, Opened, ReceiveResult, STOPPED, blocked_counts, fill_datagram, fill_node_counts,
+    has_room, open_result, receive_result, received_as, routed_status, ticked_status, wake_time,
 };
+use crate::call_users::{CallUsers, keep_user};
 use crate::calls::set_guard;
 use crate::service_events::take_event;
 use crate::service_slots::ServiceSlot;
@@ -30,6 +32,7 @@ pub fn empty_service_slot() -> ServiceSlot
     ServiceSlot {
         service: None,
         guard: Guard::new(),
+        users: CallUsers::new(),
     }
 }
 
@@ -67,13 +70,20 @@ impl ServiceSlot {
         flow: &CFlow,
         payload: &[u8],
         patience: u32,
+        user: u64,
     ) -> CallResult
-        ensures { Calling result now flow.now payload.now patience self.old self.new }
+        ensures { Calling result now flow.now payload.now patience user self.old self.new }
     {
-        match &mut self.service {
-            Some(service) => call_result(service.call(now, flow.flow(), payload, patience)),
-            None => called_as(NOT_OPEN),
-        }
+        let Some(service) = &mut self.service else {
+            return called_as(NOT_OPEN);
+        };
+        let Ok(()) = self.users.hold(service.allocator()) else {
+            return called_as(no_room_status(service.is_closed()));
+        };
+        let next = service.next_call();
+        let made = service.call(now, flow.flow(), payload, patience);
+        keep_user(&mut self.users, &made, next, user);
+        call_result(made)
     }
 
     pub(crate) fn reply(&mut self, now: u64, token: &CToken, payload: &[u8]) -> ReplyResult
@@ -128,7 +138,7 @@ impl ServiceSlot {
             return INVALID;
         }
         match &mut self.service {
-            Some(service) => take_event(service, buf, out),
+            Some(service) => take_event(service, &mut self.users, buf, out),
             None => NOT_OPEN,
         }
     }
@@ -274,7 +284,15 @@ fn opens_service(
         return Opened::NoMemory;
     };
     slot.service = Some(service);
+    slot.users = CallUsers::new();
     Opened::Done
+}
+
+/// The status of a call where there is no memory for what it is given.
+fn no_room_status(is_closed: bool) -> u8
+    ensures { result ≡ (if is_closed then stopped else no_memory) }
+{
+    if is_closed { STOPPED } else { NO_MEMORY }
 }
 
 fn give_kind(service: &mut Service, port: u16, kind: Option<PortKind>) -> u8

@@ -85,10 +85,11 @@ pub unsafe extern "C" fn dt_service_call(
     flow: &CFlow,
     payload: &[u8],
     patience: u32,
+    user: u64,
 ) -> CallResult
     ghost g: { ServiceSlot }
     requires* { sem 𝓛 (points_to service_row service g) }
-    ensures* { ∃ₛ (λ h. sem 𝓛 (points_to service_row service h) ∗ ⌜ Calling result now flow.now payload.now patience g h ⌝) }
+    ensures* { ∃ₛ (λ h. sem 𝓛 (points_to service_row service h) ∗ ⌜ Calling result now flow.now payload.now patience user g h ⌝) }
 {
     ServiceSlot::call(
         unsafe { &mut *(service as *mut ServiceSlot) },
@@ -96,6 +97,7 @@ pub unsafe extern "C" fn dt_service_call(
         flow,
         payload,
         patience,
+        user,
     )
 }
 

@@ -1,4 +1,5 @@
-//! The memory of a service handle in C: an open service or none, and its guard.
+//! The memory of a service handle in C: an open service or none, its guard, and what was given with its calls.
+use crate::call_users::CallUsers;
 use dt_endpoint::Guard;
 use dt_service::Service;
 
@@ -8,6 +9,8 @@ pub struct ServiceSlot {
     pub service: Option<Service>,
     /// What stands before the service.
     pub guard: Guard,
+    /// What was given with its calls.
+    pub users: CallUsers,
 }
 
 /// The memory of a handle of a service, as C sees it.

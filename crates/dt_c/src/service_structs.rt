@@ -1,6 +1,5 @@
 //! Arguments and results of services as they lie in C.
 ghost use Rattle.std.specs.Prelude.{◌≡◌};
-ghost use Rattle.dt_service_model.specs.Names.{call_number, number_of};
 ghost use Rattle.dt_c.specs.ServiceStructs.{call_counts, call_result, called_as, called_with, cause_number, declined_result, event, event_in, event_with, event_without_room, forgot_status, invalid_number, invalid_status, kind_of, replied_as, replied_with, reply_result, start_of, token_of};
 
 use crate::c_structs::{
@@ -77,6 +76,8 @@ pub struct Event {
     pub kind: u8,
     pub cause: u8,
     pub call: u64,
+    /// What the call that ends was given, or 0.
+    pub user: u64,
     pub len: usize,
     pub flow: CFlow,
 }
@@ -99,7 +100,7 @@ pub struct CCallCounts {
 /// How many octets a struct has that says its own size.
 pub const SERVICE_OPTIONS_SIZE: u32 = 20;
 
-pub const EVENT_SIZE: u32 = 40;
+pub const EVENT_SIZE: u32 = 48;
 
 pub const CALL_COUNTS_SIZE: u32 = 64;
 
@@ -140,26 +141,9 @@ impl CToken {
     {
         Token {
             flow: self.flow.flow(),
-            number: call_of(self.call),
+            number: CallNumber::from_u64(self.call),
         }
     }
-}
-
-/// The number of a call, by its number in C.
-fn call_of(number: u64) -> CallNumber
-    ensures { result ≡ call_number number }
-{
-    CallNumber {
-        life: (number / 4_294_967_296) as u32,
-        count: (number % 4_294_967_296) as u32,
-    }
-}
-
-/// The number of a call in C.
-fn in_one(number: CallNumber) -> u64
-    ensures { result ≡ number_of number }
-{
-    u64::from(number.life) * 4_294_967_296 + u64::from(number.count)
 }
 
 /// The kind of a port by its number, if there is one.
@@ -232,7 +216,7 @@ pub fn call_result(answer: Made) -> CallResult
     ensures { result ≡ call_result answer }
 {
     match answer {
-        Made::Call(number) => called_with(in_one(number), 0, 0, OK, 0),
+        Made::Call(number) => called_with(number.to_u64(), 0, 0, OK, 0),
         Made::Declined(why) => declined_result(why),
         Made::Refused(unfit) => called_with(0, 0, 0, invalid_status(unfit), invalid_number(unfit)),
         Made::NoMemory => called_as(NO_MEMORY),
@@ -278,7 +262,7 @@ pub fn forgot_status(answer: Forgot) -> u8
     }
 }
 
-/// An event, without the size of its struct.
+/// An event, without the size of its struct and the user of its call.
 fn event_with(kind: u8, cause: u8, number: CallNumber, flow: CFlow, len: usize) -> Event
     ensures { result ≡ event_with kind cause number flow len }
 {
@@ -286,7 +270,8 @@ fn event_with(kind: u8, cause: u8, number: CallNumber, flow: CFlow, len: usize) 
         size: 0,
         kind,
         cause,
-        call: in_one(number),
+        call: number.to_u64(),
+        user: 0,
         len,
         flow,
     }
@@ -304,7 +289,7 @@ fn cause_number(cause: Cause) -> u8
     }
 }
 
-/// What happened, without its octets and the size of its struct.
+/// What happened, without its octets, the size of its struct and the user of its call.
 fn event_of(happening: &Happening) -> Event
     ensures { result ≡ event happening.now }
 {
@@ -326,13 +311,14 @@ fn event_of(happening: &Happening) -> Event
     }
 }
 
-/// What happened goes into the caller's struct.
-pub fn fill_event(out: &mut Event, happening: &Happening)
-    ensures { out.new ≡ event_in happening.now out.old }
+/// What happened goes into the caller's struct, with the user of the call that ends.
+pub fn fill_event(out: &mut Event, happening: &Happening, user: u64)
+    ensures { out.new ≡ event_in happening.now user out.old }
 {
     let size = out.size;
     *out = event_of(happening);
     out.size = size;
+    out.user = user;
 }
 
 /// How many octets the next of what happened carries goes into the caller's struct, since the buffer
@@ -343,6 +329,7 @@ pub fn fill_event_without_room(out: &mut Event, len: usize)
     out.kind = 0;
     out.cause = 0;
     out.call = 0;
+    out.user = 0;
     out.len = len;
     out.flow = no_flow();
 }

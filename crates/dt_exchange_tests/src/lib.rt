@@ -6,13 +6,13 @@
 #[cfg(test)]
 mod answers;
 #[cfg(test)]
+mod call_books;
+#[cfg(test)]
 mod calls;
 #[cfg(test)]
 mod exchange;
 #[cfg(test)]
 mod fixtures;
-#[cfg(test)]
-mod halves;
 #[cfg(test)]
 mod inboxes;
 #[cfg(test)]

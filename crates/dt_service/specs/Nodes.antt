@@ -7,17 +7,17 @@ use Rattle.dt_messages.specs.Joining.{piece_with}
 use Rattle.dt_endpoint.specs.declared.answers.Received.{Received}
 use Rattle.dt_endpoint.specs.Calls.{arrive_event}
 use Rattle.dt_endpoint.specs.Endpoints.{Breaks, EndpointValue, after_event, with_refused}
-use Rattle.dt_service_model.specs.Halves.{Halves}
+use Rattle.dt_service_model.specs.CallBook.{CallBook}
 use Rattle.dt_service_model.specs.Stopping.{EndStops, ReadStops, heard_in_part}
 use Rattle.dt_service_model.specs.Turns.{Node, hears, read_times}
 use Rattle.dt_service.specs.declared.service_parts.ServiceParts.{ServiceParts}
 use Rattle.dt_service.specs.declared.reading.FoundPiece.{FoundPiece}
 
-abbrev pub node_of : EndpointValue → Halves → Node
-node_of e h = record { endpoint = e; halves = h }
+abbrev pub node_of : EndpointValue → CallBook → Node
+node_of e h = record { endpoint = e; book = h }
 
 abbrev pub node_in : ServiceParts → Node
-node_in p = node_of p.endpoint p.halves
+node_in p = node_of p.endpoint p.book
 
 -- what one read found in the buffer
 abbrev pub piece_found : Option FoundPiece → List ℕ → Option Piece

@@ -2,19 +2,16 @@
 ghost use Rattle.std.specs.Prelude.{◌≡◌, ◌+◌, ◌≤◌, ◌<◌, ◌^◌, IfNone, length, nat_le, not};
 ghost use Rattle.dt_world_model.specs.WorldStep.{first_refusal};
 ghost use Rattle.dt_service_model.specs.Asked.{call_refusals, goes_out, is_closed, is_one_too_many, is_too_long, reply_refusals};
-ghost use Rattle.dt_service_model.specs.Halves.{calls_held, is_caller, kind_in, most_octets};
+ghost use Rattle.dt_service_model.specs.CallBook.{calls_held, is_caller, kind_in, longest_message};
 ghost use Rattle.dt_service.specs.Nodes.{node_in};
 
 use crate::service_parts::ServiceParts;
-use dt_service_halves::reversed;
+use dt_call_book::{LONGEST_MESSAGE, reversed};
 use dt_service_model::{Declined, Made, PortKind, Replied, Token, Unfit};
 use dt_units::Flow;
 
 /// A call or reply is refused if all octets that were asked for would reach this count.
 const ASKED_LIMIT: u64 = 1 << 62;
-
-/// No longer message is put together.
-const LONGEST: usize = 65_536;
 
 fn is_caller(kind: Option<PortKind>) -> bool
     ensures { result ≡ is_caller kind }
@@ -30,7 +27,7 @@ impl ServiceParts {
     pub fn is_closed(&self) -> bool
         ensures { result ≡ is_closed (node_in self.now) }
     {
-        self.endpoint.is_spent() || self.halves.is_closed()
+        self.endpoint.is_spent() || self.book.is_closed()
     }
 
     /// Whether a flow goes from this node to another.
@@ -45,7 +42,7 @@ impl ServiceParts {
     fn is_too_long(&self, carried: &[u8]) -> bool
         ensures { result ≡ is_too_long (node_in self.now) carried.now }
     {
-        let most = LONGEST.min(self.endpoint.rules().params().cap as usize);
+        let most = LONGEST_MESSAGE.min(self.endpoint.rules().params().cap as usize);
         most < 8 + carried.len()
     }
 
@@ -59,30 +56,30 @@ impl ServiceParts {
 
     /// Whether each number of this life was used.
     fn is_out_of_numbers(&self) -> bool
-        ensures { result ≡ nat_le (2 ^ 32) self.now.halves.count }
+        ensures { result ≡ nat_le (2 ^ 32) self.now.book.count }
     {
-        self.halves.next_number().is_none()
+        self.book.next_number().is_none()
     }
 
     /// Whether as many calls as may be wait, or have ends that weren't taken.
     fn is_crowded(&self) -> bool
-        ensures { result ≡ nat_le self.now.halves.most.calls (calls_held self.now.halves) }
+        ensures { result ≡ nat_le self.now.book.most.calls (calls_held self.now.book) }
     {
-        !self.halves.has_room_for_call()
+        !self.book.has_room_for_call()
     }
 
     /// Whether a flow goes from a caller.
     fn goes_from_caller(&self, flow: &Flow) -> bool
-        ensures { result ≡ is_caller (kind_in flow.now.from_port self.now.halves.ports) }
+        ensures { result ≡ is_caller (kind_in flow.now.from_port self.now.book.ports) }
     {
-        is_caller(self.halves.kind(flow.from_port))
+        is_caller(self.book.kind(flow.from_port))
     }
 
     /// Why a call is refused, or none where it isn't.
     pub fn refuses_call(&self, flow: &Flow, payload: &[u8], patience: u32) -> Option<Made>
         ensures refusal { result ≡ first_refusal (call_refusals (node_in self.now) flow.now payload.now patience) }
-        ensures short { IfNone result (8 + length payload.now ≤ most_octets) }
-        ensures numbered { IfNone result (self.now.halves.count < 2 ^ 32) }
+        ensures short { IfNone result (8 + length payload.now ≤ longest_message) }
+        ensures numbered { IfNone result (self.now.book.count < 2 ^ 32) }
     {
         if self.is_closed() {
             return Some(Made::Refused(Unfit::Closed));
@@ -121,7 +118,7 @@ impl ServiceParts {
         if self.is_too_long(payload) {
             return Some(Replied::Refused(Unfit::TooLong));
         }
-        if !self.halves.is_open(token) {
+        if !self.book.is_open(token) {
             return Some(Replied::Gone);
         }
         if !self.goes_out(&reversed(token.flow)) {

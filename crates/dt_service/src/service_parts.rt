@@ -1,14 +1,14 @@
 //! The parts of a service, and its turns.
 ghost use Rattle.std.specs.Prelude.{◌≡◌, ◌&&◌, false, IfOk, OnErr, OnOk, if◌then◌else◌};
-ghost use Rattle.dt_service_model.specs.Halves.{may_read};
+ghost use Rattle.dt_service_model.specs.CallBook.{may_read};
 ghost use Rattle.dt_service_model.specs.Stopping.{EndStops, ReadStops};
 ghost use Rattle.dt_service_model.specs.Turns.{Node, comes_in, hears, read_flow, read_if, read_times, reads, turn_end};
 ghost use Rattle.dt_service.specs.Nodes.{FlowStops, HearingStops, node_in};
 
 use crate::reading::{ROOM, read_piece};
+use dt_call_book::CallBook;
 use dt_endpoint::Endpoint;
 use dt_items::NoMemory;
-use dt_service_halves::Halves;
 use dt_units::Flow;
 use std::alloc::Global;
 
@@ -20,7 +20,7 @@ const MOST_READS: u32 = 65_537;
 pub struct ServiceParts {
     pub alloc: Global,
     pub endpoint: Endpoint,
-    pub halves: Halves,
+    pub book: CallBook,
     /// The message that is sent.
     pub message: Vec<u8>,
     /// Takes the octets of a read.
@@ -35,17 +35,17 @@ impl ServiceParts {
         ensures stops { OnErr result (HearingStops (node_in self.old) (node_in self.new)) }
     {
         while let Some(report) = self.endpoint.next_report() {
-            self.halves.hear(&report)?;
+            self.book.hear(&report)?;
         }
         Ok(())
     }
 
     /// Whether a flow comes to this node from another, and may be read.
     fn may_read(&self, flow: &Flow) -> bool
-        ensures { result ≡ (comes_in (node_in self.now) flow.now && may_read flow.now self.now.halves) }
+        ensures { result ≡ (comes_in (node_in self.now) flow.now && may_read flow.now self.now.book) }
     {
         let me = self.endpoint.me();
-        flow.to == me && flow.from != me && self.halves.may_read(flow)
+        flow.to == me && flow.from != me && self.book.may_read(flow)
     }
 
     /// Reads a flow once, if it may be read, and answers whether more of it may be.
@@ -59,10 +59,10 @@ impl ServiceParts {
         let found = read_piece(&mut self.endpoint, now, *flow, &mut *self.room)?;
         self.hear_reports()?;
         let Some(found) = found else {
-            self.halves.done_with(flow);
+            self.book.done_with(flow);
             return Ok(false);
         };
-        self.halves
+        self.book
             .take_piece(self.alloc, *flow, found.marks, &self.room[..found.len])?;
         Ok(true)
     }
@@ -93,7 +93,7 @@ impl ServiceParts {
         ensures read { OnOk result (node_in self.new ≡ reads now (node_in self.old)) }
         ensures stops { OnErr result (EndStops now (node_in self.old) (node_in self.new)) }
     {
-        let flows = Vec::from_slice(self.alloc, self.halves.unread())?;
+        let flows = Vec::from_slice(self.alloc, self.book.unread())?;
         for flow in &flows {
             self.read_flow(now, flow)?;
         }
@@ -106,7 +106,7 @@ impl ServiceParts {
         ensures stops { OnErr result (EndStops now (node_in self.old) (node_in self.new)) }
     {
         self.read_all(now)?;
-        self.halves.sweep(&self.endpoint);
-        self.halves.judge(self.endpoint.moment_at(now))
+        self.book.sweep(&self.endpoint);
+        self.book.judge(self.endpoint.moment_at(now))
     }
 }

@@ -1,20 +1,22 @@
 //! `Service`, a node that makes calls and serves requests over an endpoint, and the values to open it with.
-ghost use Rattle.std.specs.Prelude.{◌≡◌, ◌++◌, IfOk, OnErr, OnOk, drop, not, option_map, option_to_list, is_some};
+ghost use Rattle.std.specs.Prelude.{◌≡◌, ◌++◌, ◌<◌, ◌≤◌, ◌^◌, IfOk, MatchOption, OnErr, OnOk, drop, not, option_map, option_to_list, is_some};
 ghost use Rattle.dt_endpoint.specs.Calls.{AddsRoute};
 ghost use Rattle.dt_endpoint.specs.Endpoints.{opened, with_followed};
-ghost use Rattle.dt_service_model.specs.Asked.{is_closed, is_life_in_use, raised, with_kind};
+ghost use Rattle.dt_service_model.specs.Asked.{is_closed, is_life_in_use, next_number, raised, with_kind};
 ghost use Rattle.dt_service_model.specs.Carrying.{next_size};
 ghost use Rattle.dt_service_model.specs.Ends.{close, next};
-ghost use Rattle.dt_service_model.specs.Halves.{kind_in, new_halves};
-ghost use Rattle.dt_service_model.specs.Turns.{wake, with_halves};
+ghost use Rattle.dt_service_model.specs.CallBook.{kind_in, new_book};
+ghost use Rattle.dt_service_model.specs.Turns.{wake, with_book};
 ghost use Rattle.dt_service.specs.Calls.{Arrives, Calls, Forgets, Replies, Ticks};
 
 use crate::reading::ROOM;
 use crate::service_parts::ServiceParts;
+use dt_call_book::CallBook;
 use dt_endpoint::{Endpoint, Links, OutFrame, Received, Route, Routed, Ticked};
 use dt_items::NoMemory;
-use dt_service_halves::Halves;
-use dt_service_model::{CallCounts, Forgot, Happening, Made, Most, PortKind, Replied, Token};
+use dt_service_model::{
+    CallCounts, CallNumber, Forgot, Happening, Made, Most, PortKind, Replied, Token,
+};
 use dt_units::{Flow, NodeId, Rules, earlier};
 use std::alloc::Global;
 use std::marker::Model;
@@ -65,7 +67,7 @@ impl Service {
     ) -> Result<Service, NoMemory>
         ensures { IfOk result (λ s. s ≡ record {
           endpoint = opened rules.now start.now.me.0 start.now.again links.now.outs.now links.now.ins.now links.now.routes.now;
-          halves = new_halves start.now.most start.now.life;
+          book = new_book start.now.most start.now.life;
         }) }
     {
         let room = Box::new(alloc, [0; ROOM])?;
@@ -73,7 +75,7 @@ impl Service {
         let parts = ServiceParts {
             alloc,
             endpoint,
-            halves: Halves::new(alloc, start.most, start.life),
+            book: CallBook::new(alloc, start.most, start.life),
             message: Vec::new(alloc),
             room,
         };
@@ -83,11 +85,11 @@ impl Service {
     /// A port gets its kind, and whether it had none so far: it has its kind for good. A port without one
     /// is plain, and what comes to it isn't read. `NoMemory` leaves all as it was.
     pub fn port(&mut self, port: u16, kind: PortKind) -> Result<bool, NoMemory>
-        ensures given { OnOk result (self.new ≡ with_halves (with_kind port kind) self.old) }
-        ensures answer { IfOk result (λ given. given ≡ not (is_some (kind_in port self.old.halves.ports))) }
+        ensures given { OnOk result (self.new ≡ with_book (with_kind port kind) self.old) }
+        ensures answer { IfOk result (λ given. given ≡ not (is_some (kind_in port self.old.book.ports))) }
         ensures same { OnErr result (self.new ≡ self.old) }
     {
-        self.parts.halves.set_kind(port, kind)
+        self.parts.book.set_kind(port, kind)
     }
 
     /// A call on a flow from a caller of this node to another node, at `now`: its request goes at once, and
@@ -99,10 +101,18 @@ impl Service {
         match self.parts.call(now, flow, payload, patience) {
             Ok(made) => made,
             Err(NoMemory) => {
-                self.parts.halves.close();
+                self.parts.book.close();
                 Made::NoMemory
             }
         }
+    }
+
+    /// The number that the next call has if it is made, or none where each number of this life was used: a
+    /// life is to be raised then.
+    pub fn next_call(&self) -> Option<CallNumber>
+        ensures { MatchOption result (2 ^ 32 ≤ self.now.book.count) (λ number. (self.now.book.count < 2 ^ 32) × (number ≡ next_number self.now.book)) }
+    {
+        self.parts.book.next_number()
     }
 
     /// The reply to a request that was handed out. Its token is open no more where it is done.
@@ -112,7 +122,7 @@ impl Service {
         match self.parts.reply(now, token, payload) {
             Ok(replied) => replied,
             Err(NoMemory) => {
-                self.parts.halves.close();
+                self.parts.book.close();
                 Replied::NoMemory
             }
         }
@@ -125,7 +135,7 @@ impl Service {
         match self.parts.forget(now, token) {
             Ok(forgot) => forgot,
             Err(NoMemory) => {
-                self.parts.halves.close();
+                self.parts.book.close();
                 Forgot::NoMemory
             }
         }
@@ -139,7 +149,7 @@ impl Service {
         match self.parts.arrive(now, link, datagram, waited) {
             Ok(arrived) => arrived,
             Err(NoMemory) => {
-                self.parts.halves.close();
+                self.parts.book.close();
                 Received::NoMemory
             }
         }
@@ -152,7 +162,7 @@ impl Service {
         match self.parts.tick(now) {
             Ok(ticked) => ticked,
             Err(NoMemory) => {
-                self.parts.halves.close();
+                self.parts.book.close();
                 Ticked::NoMemory
             }
         }
@@ -161,33 +171,33 @@ impl Service {
     /// What was reported first of all that wasn't taken: a request, or how a call ended. It is taken with this.
     /// It is no turn. Once all is taken, a closed node hands out that each call that waited is unsure.
     pub fn next(&mut self) -> Option<Happening>
-        ensures first { result ≡ (next self.old.halves).0 }
-        ensures others { self.new ≡ record self.old { halves = (next self.old.halves).1 } }
+        ensures first { result ≡ (next self.old.book).0 }
+        ensures others { self.new ≡ record self.old { book = (next self.old.book).1 } }
     {
-        self.parts.halves.next_happening()
+        self.parts.book.next_happening()
     }
 
     /// How many octets what [`Service::next`] would take carries, or none where it would take nothing.
     pub fn next_size(&self) -> Option<usize>
-        ensures { result ≡ next_size self.now.halves }
+        ensures { result ≡ next_size self.now.book }
     {
-        self.parts.halves.next_size()
+        self.parts.book.next_size()
     }
 
     /// From now on calls have numbers of this life, and whether they do: nothing changes where it is the
     /// life of the node, or of a call that waits.
     pub fn raise(&mut self, life: u32) -> bool
-        ensures raised { self.new ≡ with_halves (raised life) self.old }
-        ensures answer { result ≡ not (is_life_in_use life self.old.halves) }
+        ensures raised { self.new ≡ with_book (raised life) self.old }
+        ensures answer { result ≡ not (is_life_in_use life self.old.book) }
     {
-        self.parts.halves.raise(life)
+        self.parts.book.raise(life)
     }
 
     /// How many messages were dropped, by cause.
     pub fn counts(&self) -> CallCounts
-        ensures { result ≡ self.now.halves.counts }
+        ensures { result ≡ self.now.book.counts }
     {
-        self.parts.halves.counts()
+        self.parts.book.counts()
     }
 
     /// The least moment in milliseconds at which something is due or the patience of a call is over, or
@@ -195,18 +205,18 @@ impl Service {
     pub fn wake(&self) -> Option<u64>
         ensures { result ≡ wake self.now }
     {
-        if self.parts.halves.is_closed() {
+        if self.parts.book.is_closed() {
             return None;
         }
-        earlier(self.parts.endpoint.wake(), self.parts.halves.deadline())
+        earlier(self.parts.endpoint.wake(), self.parts.book.deadline())
     }
 
     /// The node closes: each call that waits is unsure, and what else isn't reported is forgotten. It takes no
     /// memory.
     pub fn close(&mut self)
-        ensures { self.new ≡ with_halves close self.old }
+        ensures { self.new ≡ with_book close self.old }
     {
-        self.parts.halves.close();
+        self.parts.book.close();
     }
 
     /// Whether the node was closed, or found no memory.
@@ -227,7 +237,7 @@ impl Service {
     /// A route more, as [`Endpoint::add_route`] has it.
     pub fn add_route(&mut self, route: Route) -> Routed
         ensures added { AddsRoute result route self.old.endpoint self.new.endpoint }
-        ensures same { self.new.halves ≡ self.old.halves }
+        ensures same { self.new.book ≡ self.old.book }
     {
         self.parts.endpoint.add_route(route)
     }
@@ -238,6 +248,11 @@ impl Service {
         ensures same { OnErr result (self.new ≡ self.old) }
     {
         self.parts.endpoint.follow(flow)
+    }
+
+    /// What its memory is taken of.
+    pub fn allocator(&self) -> Global {
+        self.parts.alloc
     }
 
     /// The endpoint, to look at: its counts, its frames, and what a guard asks.

@@ -2,23 +2,23 @@
 ghost use Rattle.std.specs.Prelude.{◌≡◌, ◌<◌, ◌^◌, Bool, false, IfOk, OnErr, OnOk};
 ghost use Rattle.dt_service_model.specs.declared.answers.Forgot.TheVariants as forgot;
 ghost use Rattle.dt_service_model.specs.Asked.{arrive, call, forget, forgotten_unless, made_of, next_number, replied_of, reply, tick, with_call_unless};
-ghost use Rattle.dt_service_model.specs.Halves.{Halves as HalvesValue};
+ghost use Rattle.dt_service_model.specs.CallBook.{CallBook as BookValue};
 ghost use Rattle.dt_service_model.specs.Stopping.{ArriveStops, CallStops, ForgetStops, ReplyStops, TickStops};
-ghost use Rattle.dt_service_model.specs.Turns.{hears, turn_end, with_halves};
+ghost use Rattle.dt_service_model.specs.Turns.{hears, turn_end, with_book};
 ghost use Rattle.dt_service.specs.Nodes.{Is, RestStops, node_in};
 
 use crate::sending::{pass, receive, send_message};
 use crate::service_parts::ServiceParts;
+use dt_call_book::{reversed, write_message};
 use dt_endpoint::{Received, Ticked};
 use dt_items::NoMemory;
 use dt_reports::Refusal;
-use dt_service_halves::{reversed, write_message};
 use dt_service_model::{CallNumber, Declined, Forgot, Made, Replied, Token};
 use dt_units::Flow;
 
 /// The answer to a call whose request was sent.
 fn made_of(refused: Option<Refusal>, number: CallNumber) -> Made
-    ensures { (h : HalvesValue) → number ≡ next_number h → result ≡ made_of refused h }
+    ensures { (h : BookValue) → number ≡ next_number h → result ≡ made_of refused h }
 {
     match refused {
         None => Made::Call(number),
@@ -90,12 +90,12 @@ impl ServiceParts {
         count: u32,
         deadline: u64,
     ) -> Result<(), NoMemory>
-        requires { self.old.halves.count < 2 ^ 32 }
-        ensures kept { OnOk result (node_in self.new ≡ with_halves (with_call_unless refused flow count deadline) (node_in self.old)) }
+        requires { self.old.book.count < 2 ^ 32 }
+        ensures kept { OnOk result (node_in self.new ≡ with_book (with_call_unless refused flow count deadline) (node_in self.old)) }
         ensures same { OnErr result (node_in self.new ≡ node_in self.old) }
     {
         if refused.is_none() {
-            self.halves.add_call(flow, count, deadline)?;
+            self.book.add_call(flow, count, deadline)?;
         }
         Ok(())
     }
@@ -114,7 +114,7 @@ impl ServiceParts {
         if let Some(refusal) = self.refuses_call(&flow, payload, patience) {
             return Ok(refusal);
         }
-        let Some(number) = self.halves.next_number() else {
+        let Some(number) = self.book.next_number() else {
             return Ok(Made::Declined(Declined::Numbers));
         };
         write_message(number, payload, &mut self.message)?;
@@ -129,10 +129,10 @@ impl ServiceParts {
 
     /// A token is open no more, unless its reply wasn't taken.
     fn drop_unless(&mut self, refused: Option<Refusal>, token: &Token)
-        ensures { node_in self.new ≡ with_halves (forgotten_unless refused token.now) (node_in self.old) }
+        ensures { node_in self.new ≡ with_book (forgotten_unless refused token.now) (node_in self.old) }
     {
         if refused.is_none() {
-            self.halves.forget(token);
+            self.book.forget(token);
         }
     }
 
@@ -158,10 +158,10 @@ impl ServiceParts {
         ensures done { IfOk result (λ answer. Is answer (node_in self.new) (forget now token.now (node_in self.old))) }
         ensures stops { OnErr result (ForgetStops now token.now (node_in self.old) (node_in self.new)) }
     {
-        if self.is_closed() || !self.halves.is_open(token) {
+        if self.is_closed() || !self.book.is_open(token) {
             return Ok(Forgot::Gone);
         }
-        self.halves.forget(token);
+        self.book.forget(token);
         self.end_turn(now)?;
         Ok(Forgot::Done)
     }

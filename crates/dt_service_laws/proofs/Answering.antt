@@ -26,10 +26,10 @@ use Rattle.dt_service_model.specs.declared.names.CallNumber.{CallNumber}
 use Rattle.dt_service_model.specs.declared.names.Token.{Token}
 use Rattle.dt_service_model.specs.declared.ports.PortKind.{PortKind}
 use Rattle.dt_service_model.specs.declared.ports.PortKind.TheVariants.{Caller, Service}
-use Rattle.dt_service_model.specs.Halves.{Halves, counted_up, kind_in, most_octets}
+use Rattle.dt_service_model.specs.CallBook.{CallBook, counted_up, kind_in, longest_message}
 use Rattle.dt_service_model.specs.Hearing.{hear}
-use Rattle.dt_service_model.specs.Names.{call_number, same_number, same_token, token_with}
-use Rattle.dt_service_model.specs.Turns.{Node, hears, with_halves}
+use Rattle.dt_service_model.specs.Names.{from_u64, same_number, same_token, token_with}
+use Rattle.dt_service_model.specs.Turns.{Node, hears, with_book}
 use Rattle.dt_service_model.specs.Whole.{begun_of, grown, is_open, is_waiting_call, take_as, take_piece, take_reply_at, take_whole, without_token}
 use Rattle.dt_service_laws.specs.Histories.{Message, answer_in, count_of, each_of, request_in}
 use Rattle.dt_service_laws.specs.Orders.{AreSomeOf, none, skips, takes}
@@ -112,7 +112,7 @@ pub record IsOther (g : Flow) (calls : List OpenCall) (a : Message) : Type 0 whe
   pub other : same_flow call.flow (reversed g) ≡ false
 
 -- A WHOLE MESSAGE
-pub record WholeAnswers (f : Flow) (o : Option (List ℕ)) (h : Halves) (a : Message) : Type 0 where
+pub record WholeAnswers (f : Flow) (o : Option (List ℕ)) (h : CallBook) (a : Message) : Type 0 where
   pub message : List ℕ
   pub whole : o ≡ Some message
   pub says : said message ≡ a
@@ -122,22 +122,22 @@ pub record WholeAnswers (f : Flow) (o : Option (List ℕ)) (h : Halves) (a : Mes
   pub number : call.number ≡ a.number
   pub flow : call.flow ≡ reversed f
 
-pub record WholeGives (f : Flow) (o : Option (List ℕ)) (h k : Halves) : Type 0 where
+pub record WholeGives (f : Flow) (o : Option (List ℕ)) (h k : CallBook) : Type 0 where
   pub told : List Happening
   pub happenings : k.happenings ≡ h.happenings ++ told
   pub from : (a : Message) → Contains (each_of answer_in told) a → WholeAnswers f o h a
   pub opens : (t : Token) → open_count t k.tokens ≤ open_count t h.tokens + count_of t.number (each_of (request_in t.flow) told)
 
-gives_none : (f : Flow) (o : Option (List ℕ)) (h k : Halves) → k.happenings ≡ h.happenings → ((t : Token) → open_count t k.tokens ≤ open_count t h.tokens) → WholeGives f o h k
+gives_none : (f : Flow) (o : Option (List ℕ)) (h k : CallBook) → k.happenings ≡ h.happenings → ((t : Token) → open_count t k.tokens ≤ open_count t h.tokens) → WholeGives f o h k
 gives_none f o h k same fewer = record { told = []; happenings = same ∙ sym (append-nil h.happenings); from = λ a there. absurd (let lt = there.1 in omega (arith, lt)); opens = λ t. (let l = fewer t in omega (arith, l)) }
 
 one_there : (x a : Message) → Contains (x ∷ []) a → x ≡ a
 one_there x a there = elim (contains_parts x a [] there) [ inl same ↦ same | inr more ↦ absurd (let lt = more.1 in omega (arith, lt)) ]
 
-reply_gives : (f : Flow) (m : List ℕ) (h : Halves) (o : Option ℕ) → position (is_waiting_call (reversed f) (call_number (number_in m))) h.calls ≡ o → WholeGives f (Some m) h (take_reply_at o (call_number (number_in m)) (carried_in m) h)
+reply_gives : (f : Flow) (m : List ℕ) (h : CallBook) (o : Option ℕ) → position (is_waiting_call (reversed f) (from_u64 (number_in m))) h.calls ≡ o → WholeGives f (Some m) h (take_reply_at o (from_u64 (number_in m)) (carried_in m) h)
 reply_gives f m h None is = gives_none f (Some m) h _ refl (λ t. omega arith)
 reply_gives f m h (Some place) is =
-    let n = call_number (number_in m) in
+    let n = from_u64 (number_in m) in
     let d : OpenCall = record { number = n; flow = f; deadline = 0; left = 0; waits = false; has_given_up = false } in
     let at = position-Some (is_waiting_call (reversed f) n) h.calls place d is in
     let call = get_or h.calls place d in
@@ -168,38 +168,38 @@ request_opens t token payload [] =
     ]
 request_opens t token payload (s ∷ tokens) = let more = request_opens t token payload tokens in omega (arith, more)
 
-request_gives : (f : Flow) (m : List ℕ) (h : Halves) (b : Bool) → let token = token_with f (call_number (number_in m)) in
+request_gives : (f : Flow) (m : List ℕ) (h : CallBook) (b : Bool) → let token = token_with f (from_u64 (number_in m)) in
     WholeGives f (Some m) h (cond b (record h { tokens = without_token token h.tokens; counts = record (h.counts) { reused = counted_up h.counts.reused } }) (record h { tokens = h.tokens ++ token ∷ []; happenings = h.happenings ++ Request token (carried_in m) ∷ [] }))
 request_gives f m h true = gives_none f (Some m) h _ refl (λ t. fewer_open t _ h.tokens)
 request_gives f m h false = record {
-  told = Request (token_with f (call_number (number_in m))) (carried_in m) ∷ [];
+  told = Request (token_with f (from_u64 (number_in m))) (carried_in m) ∷ [];
   happenings = refl;
   from = λ a there. absurd (let lt = there.1 in omega (arith, lt));
-  opens = λ t. request_opens t (token_with f (call_number (number_in m))) (carried_in m) h.tokens;
+  opens = λ t. request_opens t (token_with f (from_u64 (number_in m))) (carried_in m) h.tokens;
 }
 
-as_gives : (f : Flow) (m : List ℕ) (h : Halves) (kind : Option PortKind) → WholeGives f (Some m) h (take_as kind f (call_number (number_in m)) (carried_in m) h)
+as_gives : (f : Flow) (m : List ℕ) (h : CallBook) (kind : Option PortKind) → WholeGives f (Some m) h (take_as kind f (from_u64 (number_in m)) (carried_in m) h)
 as_gives f m h None = gives_none f (Some m) h h refl (λ t. omega arith)
-as_gives f m h (Some Caller) = reply_gives f m h (position (is_waiting_call (reversed f) (call_number (number_in m))) h.calls) refl
-as_gives f m h (Some Service) = request_gives f m h (is_open (token_with f (call_number (number_in m))) h)
+as_gives f m h (Some Caller) = reply_gives f m h (position (is_waiting_call (reversed f) (from_u64 (number_in m))) h.calls) refl
+as_gives f m h (Some Service) = request_gives f m h (is_open (token_with f (from_u64 (number_in m))) h)
 
-message_gives : (f : Flow) (m : List ℕ) (h : Halves) (b : Bool) → WholeGives f (Some m) h (cond b (take_as (kind_in f.to_port h.ports) f (call_number (number_in m)) (carried_in m) h) (record h { counts = record (h.counts) { short = counted_up h.counts.short } }))
+message_gives : (f : Flow) (m : List ℕ) (h : CallBook) (b : Bool) → WholeGives f (Some m) h (cond b (take_as (kind_in f.to_port h.ports) f (from_u64 (number_in m)) (carried_in m) h) (record h { counts = record (h.counts) { short = counted_up h.counts.short } }))
 message_gives f m h true = as_gives f m h (kind_in f.to_port h.ports)
 message_gives f m h false = gives_none f (Some m) h _ refl (λ t. omega arith)
 
-pub whole_gives : (f : Flow) (o : Option (List ℕ)) (h : Halves) → WholeGives f o h (take_whole f o h)
+pub whole_gives : (f : Flow) (o : Option (List ℕ)) (h : CallBook) → WholeGives f o h (take_whole f o h)
 whole_gives f None h = gives_none f None h h refl (λ t. omega arith)
 whole_gives f (Some m) h = message_gives f m h (has_number m)
 
 -- FROM ONE STATE TO ANOTHER
-pub record Answers (g : Flow) (b : Option (List ℕ)) (items : List Item) (h k : Halves) : Type 0 where
+pub record Answers (g : Flow) (b : Option (List ℕ)) (items : List Item) (h k : CallBook) : Type 0 where
   pub told : List Happening
   pub happenings : k.happenings ≡ h.happenings ++ told
   pub waits : AreKeptFrom h.calls k.calls
   pub opens : (t : Token) → open_count t k.tokens ≤ open_count t h.tokens + count_of t.number (each_of (request_in t.flow) told)
   pub from : (a : Message) → Contains (each_of answer_in told) a → Contains (map said (messages_from b items)) a ⊎ IsOther g h.calls a
 
-pub quiet_answers : (g : Flow) (b : Option (List ℕ)) (h k : Halves) → IsQuiet h k → Answers g b [] h k
+pub quiet_answers : (g : Flow) (b : Option (List ℕ)) (h k : CallBook) → IsQuiet h k → Answers g b [] h k
 quiet_answers g b h k quiet = record {
   told = quiet.told;
   happenings = quiet.happenings;
@@ -217,7 +217,7 @@ other_kept g before after a kept o =
     let k = All-contains (λ (c : OpenCall). c.waits ≡ true → IsKeptFrom before c) after o.call kept o.there o.waits in
     record { call = k.was; there = k.there; waits = k.waits; number = k.number ∙ o.number; other = ap (λ (f : Flow). same_flow f (reversed g)) k.flow ∙ o.other }
 
-pub answers_then : (g : Flow) (b : Option (List ℕ)) (xs ys : List Item) (h k l : Halves) → Answers g b xs h k → Answers g (begun_after b xs) ys k l → Answers g b (xs ++ ys) h l
+pub answers_then : (g : Flow) (b : Option (List ℕ)) (xs ys : List Item) (h k l : CallBook) → Answers g b xs h k → Answers g (begun_after b xs) ys k l → Answers g b (xs ++ ys) h l
 answers_then g b xs ys h k l p q =
     let all : map said (messages_from b (xs ++ ys)) ≡ map said (messages_from b xs) ++ map said (messages_from (begun_after b xs) ys) = ap (map said) (messages_append b xs ys) ∙ map-append said (messages_from b xs) (messages_from (begun_after b xs) ys) in
     record {
@@ -238,11 +238,11 @@ answers_then g b xs ys h k l p q =
     }
 
 -- A PIECE
-piece_answers : (f g : Flow) (b : Option (List ℕ)) (begin end run : Bool) (o : ℕ) (os : List ℕ) (h : Halves) → Tracks g b h.begun → (t : Bool) → same_flow f g ≡ t
+piece_answers : (f g : Flow) (b : Option (List ℕ)) (begin end run : Bool) (o : ℕ) (os : List ℕ) (h : CallBook) → Tracks g b h.begun → (t : Bool) → same_flow f g ≡ t
     → Answers g b (read_if t (marked (o ∷ os) begin end run)) h (take_piece f (piece_with begin end run (o ∷ os)) h)
 piece_answers f g b begin end run o os h tracks t is =
     let p = piece_with begin end run (o ∷ os) in
-    let whole = whole_within (Some most_octets) (begun_of f h) p in
+    let whole = whole_within (Some longest_message) (begun_of f h) p in
     let w = whole_gives f whole (grown f (begun_of f h) p h) in
     record {
       told = w.told;
@@ -252,19 +252,19 @@ piece_answers f g b begin end run o os h tracks t is =
       from = λ a there. by_flow t is a (w.from a there);
     }
   where
-    by_flow : (t : Bool) → same_flow f g ≡ t → (a : Message) → WholeAnswers f (whole_within (Some most_octets) (begun_of f h) (piece_with begin end run (o ∷ os))) (grown f (begun_of f h) (piece_with begin end run (o ∷ os)) h) a
+    by_flow : (t : Bool) → same_flow f g ≡ t → (a : Message) → WholeAnswers f (whole_within (Some longest_message) (begun_of f h) (piece_with begin end run (o ∷ os))) (grown f (begun_of f h) (piece_with begin end run (o ∷ os)) h) a
         → Contains (map said (messages_from b (read_if t (marked (o ∷ os) begin end run)))) a ⊎ IsOther g h.calls a
     by_flow true is a w =
         let p = piece_with begin end run (o ∷ os) in
         let here : Tracks f b h.begun = subst (λ (k : Flow). Tracks k b h.begun) (sym (flow_is f g is)) tracks in
-        let whole = whole_within (Some most_octets) (begun_of f h) p in
+        let whole = whole_within (Some longest_message) (begun_of f h) p in
         let one : Contains (listed whole) w.message = subst (λ (x : Option (List ℕ)). Contains (listed x) w.message) (sym w.whole) (contains_first w.message w.message [] refl) in
-        let read : Contains (listed (whole_with b p)) w.message = some_contains w.message (whole_stays (Some most_octets) (begun_of f h) b p (begun_same f b h here)) one in
+        let read : Contains (listed (whole_with b p)) w.message = some_contains w.message (whole_stays (Some longest_message) (begun_of f h) b p (begun_same f b h here)) one in
         let in_items : Contains (messages_from b (marked (o ∷ os) begin end run)) w.message = subst (λ (ms : List (List ℕ)). Contains ms w.message) (sym (piece_messages b o os begin end run)) read in
         inl (subst (λ (x : Message). Contains (map said (messages_from b (marked (o ∷ os) begin end run))) x) w.says (contains_mapped said _ w.message in_items))
     by_flow false is a w = inr (record { call = w.call; there = w.there; waits = w.waits; number = w.number; other = ap (λ (f : Flow). same_flow f (reversed g)) w.flow ∙ same_reversed f g ∙ is })
 
-read_answers : (f g : Flow) (b : Option (List ℕ)) (p : Piece) (o : ℕ) (os : List ℕ) (h : Halves) → p.octets ≡ o ∷ os → Tracks g b h.begun
+read_answers : (f g : Flow) (b : Option (List ℕ)) (p : Piece) (o : ℕ) (os : List ℕ) (h : CallBook) → p.octets ≡ o ∷ os → Tracks g b h.begun
     → Answers g b (read_if (same_flow f g) (items_read (answer.Read (length p.octets) p.run p.begin p.end) p.octets)) h (take_piece f p h)
 read_answers f g b p o os h is tracks =
     let all : take (length p.octets) p.octets ≡ o ∷ os = take-length p.octets ∙ is in
@@ -274,22 +274,22 @@ read_answers f g b p o os h is tracks =
 
 -- OVER THE MOVES
 module _ (setup : Setup) (n : ℕ) where
-  pub moves_answer : (base : Network) (g : Flow) (b : Option (List ℕ)) (x y : Node) (steps : List Step) → Moves setup n base x steps y → Tracks g b x.halves.begun → Answers g b (all_read g steps) x.halves y.halves
-  moves_answer base g b x y steps (rests {x = z}) tracks = quiet_answers g b z.halves z.halves (quiet_itself z.halves)
+  pub moves_answer : (base : Network) (g : Flow) (b : Option (List ℕ)) (x y : Node) (steps : List Step) → Moves setup n base x steps y → Tracks g b x.book.begun → Answers g b (all_read g steps) x.book y.book
+  moves_answer base g b x y steps (rests {x = z}) tracks = quiet_answers g b z.book z.book (quiet_itself z.book)
   moves_answer base g b x y steps (changes {x = z} {y = u} {steps = ss} h quiet more) tracks =
-      answers_then g b [] (all_read g ss) z.halves h u.halves (quiet_answers g b z.halves h quiet) (moves_answer base g b (record z { halves = h }) u ss more (quiet.begun g b tracks))
+      answers_then g b [] (all_read g ss) z.book h u.book (quiet_answers g b z.book h quiet) (moves_answer base g b (record z { book = h }) u ss more (quiet.begun g b tracks))
   moves_answer base g b x y steps (calls {x = z} {y = u} {steps = ss} call f may nothing taken more) tracks =
-      let quiet = all_heard_quiet f.reports z.halves in
-      let heard = fold hear z.halves f.reports in
+      let quiet = all_heard_quiet f.reports z.book in
+      let heard = fold hear z.book f.reports in
       let rest = moves_answer base g b (hears (record z { endpoint = f })) u ss more (quiet.begun g b tracks) in
-      subst (λ (is : List Item). Answers g b is z.halves u.halves) (sym (ap (λ (is : List Item). is ++ all_read g (pulls setup n f f.reports ++ ss)) (nothing g) ∙ behind_read setup n g f f.reports ss))
-      (answers_then g b [] (all_read g ss) z.halves heard u.halves (quiet_answers g b z.halves heard quiet) rest)
+      subst (λ (is : List Item). Answers g b is z.book u.book) (sym (ap (λ (is : List Item). is ++ all_read g (pulls setup n f f.reports ++ ss)) (nothing g) ∙ behind_read setup n g f f.reports ss))
+      (answers_then g b [] (all_read g ss) z.book heard u.book (quiet_answers g b z.book heard quiet) rest)
   moves_answer base g b x y steps (reads {x = z} {y = u} {steps = ss} now k p o os f comes some may more) tracks =
-      let quiet = all_heard_quiet f.reports z.halves in
-      let heard = fold hear z.halves f.reports in
+      let quiet = all_heard_quiet f.reports z.book in
+      let heard = fold hear z.book f.reports in
       let here = quiet.begun g b tracks in
       let items = read_if (same_flow k g) (items_read (answer.Read (length p.octets) p.run p.begin p.end) p.octets) in
       let piece = read_answers k g b p o os heard some here in
-      let rest = moves_answer base g (begun_after b items) (with_halves (take_piece k p) (hears (record z { endpoint = f }))) u ss more (read_tells k g b p o os heard some here).begun in
-      subst (λ (is : List Item). Answers g b (items ++ is) z.halves u.halves) (sym (behind_read setup n g f f.reports ss))
-      (answers_then g b items (all_read g ss) z.halves (take_piece k p heard) u.halves (answers_then g b [] items z.halves heard (take_piece k p heard) (quiet_answers g b z.halves heard quiet) piece) rest)
+      let rest = moves_answer base g (begun_after b items) (with_book (take_piece k p) (hears (record z { endpoint = f }))) u ss more (read_tells k g b p o os heard some here).begun in
+      subst (λ (is : List Item). Answers g b (items ++ is) z.book u.book) (sym (behind_read setup n g f f.reports ss))
+      (answers_then g b items (all_read g ss) z.book (take_piece k p heard) u.book (answers_then g b [] items z.book heard (take_piece k p heard) (quiet_answers g b z.book heard quiet) piece) rest)

@@ -108,7 +108,7 @@ spelled_some (m ∷ ms) = (omega arith, spelled_some ms)
 
 module _ (setup : Setup) (Good : Network → Type 0) (law : IsLawful setup Good) (kinds : (node port : ℕ) → PortKind) where
   abbrev pub AreSound : Services → Type 0
-  AreSound s = (k : ℕ) → IsSound kinds k (s.halves k)
+  AreSound s = (k : ℕ) → IsSound kinds k (s.book k)
 
   -- one turn
   pub record Alone (f : Flow) (v : Services) (sent calls returned replies : List Message) : Type 0 where
@@ -132,8 +132,8 @@ module _ (setup : Setup) (Good : Network → Type 0) (law : IsLawful setup Good)
         back = ap (λ (ms : List Message). ms ++ reply_by f deed x) (no_call_back kinds n f served x (sound n) me deed);
       }
     where
-      by_test : (k : ℕ) (b : Bool) → (n == k) ≡ b → IsSound kinds n (node_after setup n deed (node_with n s e)).halves → IsSound kinds k (cond b (node_after setup n deed (node_with n s e)).halves (s.halves k))
-      by_test k true is h = subst (λ (j : ℕ). IsSound kinds j (node_after setup n deed (node_with n s e)).halves) (nat_is n k is) h
+      by_test : (k : ℕ) (b : Bool) → (n == k) ≡ b → IsSound kinds n (node_after setup n deed (node_with n s e)).book → IsSound kinds k (cond b (node_after setup n deed (node_with n s e)).book (s.book k))
+      by_test k true is h = subst (λ (j : ℕ). IsSound kinds j (node_after setup n deed (node_with n s e)).book) (nat_is n k is) h
       by_test k false is h = sound k
 
   abbrev pub KeepsKindIn : Turn → Type 0
@@ -158,7 +158,7 @@ module _ (setup : Setup) (Good : Network → Type 0) (law : IsLawful setup Good)
       → (all : List Message) → AreSentOf some setup (t ∷ turns) s all → AreSentOf others setup (t ∷ turns) s all
   same_sent some others t turns s same rest all h = (h.0, h.1, subst (λ (ms : List Message). IsSentOf (has_memory t) ms h.0) same h.2, rest h.1 h.3, h.4)
 
-  pub calls_alone : (f : Flow) → IsServed kinds f → (turns : List Turn) (b : Option (List ℕ)) (past : Flow → CallNumber → ℕ) (s : Services) → Good s.network → AreOn setup Good law s → AreSound s → Tracks f b (s.halves f.to.0).begun → Waits setup Good law past (s.halves f.to.0).calls → KeepsKinds kinds turns → KeepsTurns setup turns s → AllAlone f turns s
+  pub calls_alone : (f : Flow) → IsServed kinds f → (turns : List Turn) (b : Option (List ℕ)) (past : Flow → CallNumber → ℕ) (s : Services) → Good s.network → AreOn setup Good law s → AreSound s → Tracks f b (s.book f.to.0).begun → Waits setup Good law past (s.book f.to.0).calls → KeepsKinds kinds turns → KeepsTurns setup turns s → AllAlone f turns s
   calls_alone f served [] b past s good on sound tracks waits agree keeps = record { fit = tt; sent = λ all h. h; back = λ all h. h }
   calls_alone f served (t ∷ turns) b past s good on sound tracks waits agree keeps =
       let parts = kinds_parts t turns agree in

@@ -35,9 +35,9 @@ use Rattle.dt_service_model.specs.declared.answers.Made.{Made}
 use Rattle.dt_service_model.specs.declared.answers.Replied.{Replied}
 use Rattle.dt_service_model.specs.declared.names.Token.{Token}
 use Rattle.dt_service_model.specs.Asked.{arrive, call, call_refusals, forget, forget_refusals, forgotten, forgotten_unless, goes_out, is_closed, is_one_too_many, made_by, made_of, message_event, next_number, or_counted, replied_by, replied_of, reply, reply_refusals, tick, unless, with_call_unless}
-use Rattle.dt_service_model.specs.Halves.{Halves}
-use Rattle.dt_service_model.specs.Names.{number_of}
-use Rattle.dt_service_model.specs.Turns.{Node, happens, turn, turn_end, with_halves}
+use Rattle.dt_service_model.specs.CallBook.{CallBook}
+use Rattle.dt_service_model.specs.Names.{to_u64}
+use Rattle.dt_service_model.specs.Turns.{Node, happens, turn, turn_end, with_book}
 use Rattle.dt_service_model.specs.Whole.{is_open}
 use Rattle.dt_service_laws.specs.Histories.{Message, made_as, replied_as, spelled}
 use Rattle.dt_service_laws.proofs.Deeds.{Comes, IsBetween, IsOn, comes_by_end, comes_by_event, comes_by_step, comes_nowhere, nothing_between, reposted}
@@ -109,16 +109,16 @@ none_refused false false false false p q r s = refl
 pub length_message : (n : ℕ) (carried : List ℕ) → length (message_of n carried) ≡ 8 + length carried
 length_message n carried = omega arith
 
--- the halves between an event and the end of its turn: those of before where nothing is done
-abbrev pub mid_of : {A : Type 0} → Option A → Halves → Halves → Halves
+-- the book between an event and the end of its turn: that of before where nothing is done
+abbrev pub mid_of : {A : Type 0} → Option A → CallBook → CallBook → CallBook
 mid_of (Some refusal) before between = before
 mid_of None before between = between
 
-abbrev pub called : (now : ℕ) → Flow → List ℕ → (patience : ℕ) → Node → Halves
-called now f message patience x = with_call_unless (send_answer now f message true true x.endpoint) f (length message) (moment_of now x.endpoint + patience) (happens now (message_event f message) x).halves
+abbrev pub called : (now : ℕ) → Flow → List ℕ → (patience : ℕ) → Node → CallBook
+called now f message patience x = with_call_unless (send_answer now f message true true x.endpoint) f (length message) (moment_of now x.endpoint + patience) (happens now (message_event f message) x).book
 
-abbrev pub replied_mid : (now : ℕ) → Token → List ℕ → Node → Halves
-replied_mid now token message x = forgotten_unless (send_answer now (reversed token.flow) message true true x.endpoint) token (happens now (message_event (reversed token.flow) message) x).halves
+abbrev pub replied_mid : (now : ℕ) → Token → List ℕ → Node → CallBook
+replied_mid now token message x = forgotten_unless (send_answer now (reversed token.flow) message true true x.endpoint) token (happens now (message_event (reversed token.flow) message) x).book
 
 nothing_if : (b : Bool) (ms : List Message) → ms ≡ [] → [] ≡ items_of_all (map spelled (cond b ms []))
 nothing_if true ms h = ap (λ (l : List Message). items_of_all (map spelled l)) (sym h)
@@ -126,19 +126,19 @@ nothing_if false ms h = refl
 
 -- a call that is made leaves what was begun and told, and a reply that is taken too
 module _ (setup : Setup) (n : ℕ) where
-  pub kept_between : (o : Option Refusal) (f : Flow) (count deadline : ℕ) (h : Halves) → IsBetween setup n h (with_call_unless o f count deadline h)
+  pub kept_between : (o : Option Refusal) (f : Flow) (count deadline : ℕ) (h : CallBook) → IsBetween setup n h (with_call_unless o f count deadline h)
   kept_between None f count deadline h = record { begun = refl; happenings = refl }
   kept_between (Some r) f count deadline h = record { begun = refl; happenings = refl }
 
-  pub forgot_between : (o : Option Refusal) (token : Token) (h : Halves) → IsBetween setup n h (forgotten_unless o token h)
+  pub forgot_between : (o : Option Refusal) (token : Token) (h : CallBook) → IsBetween setup n h (forgotten_unless o token h)
   forgot_between None token h = record { begun = refl; happenings = refl }
   forgot_between (Some r) token h = record { begun = refl; happenings = refl }
 
-pub flows_kept : (o : Option Refusal) (f : Flow) (count deadline : ℕ) (h : Halves) → All IsFlow h.unread → All IsFlow (with_call_unless o f count deadline h).unread
+pub flows_kept : (o : Option Refusal) (f : Flow) (count deadline : ℕ) (h : CallBook) → All IsFlow h.unread → All IsFlow (with_call_unless o f count deadline h).unread
 flows_kept None f count deadline h all = all
 flows_kept (Some r) f count deadline h all = all
 
-pub forgot_flows : (o : Option Refusal) (token : Token) (h : Halves) → All IsFlow h.unread → All IsFlow (forgotten_unless o token h).unread
+pub forgot_flows : (o : Option Refusal) (token : Token) (h : CallBook) → All IsFlow h.unread → All IsFlow (forgotten_unless o token h).unread
 forgot_flows None token h all = all
 forgot_flows (Some r) token h all = all
 
@@ -177,8 +177,8 @@ module _ (setup : Setup) (n : ℕ) (m : Network) (x : Node) (there : IsAt n m x.
 
   -- a send, and the end of its turn
   comes_by_send : (now : ℕ) → KeepsTime setup m n now → (f : Flow) → IsFlow f → (number : ℕ) (carried : List ℕ) → x.endpoint.spent ≡ false → goes_out x f ≡ true → is_one_too_many x carried ≡ false
-      → let message = message_of number carried in (h : Halves) → IsBetween setup n (happens now (message_event f message) x).halves h → All IsFlow h.unread
-      → Comes setup n x h (turn_end now (record { endpoint = (happens now (message_event f message) x).endpoint; halves = h })) m (λ g. cond (same_flow f g) (posted (send_answer now f message true true x.endpoint) message) [])
+      → let message = message_of number carried in (h : CallBook) → IsBetween setup n (happens now (message_event f message) x).book h → All IsFlow h.unread
+      → Comes setup n x h (turn_end now (record { endpoint = (happens now (message_event f message) x).endpoint; book = h })) m (λ g. cond (same_flow f g) (posted (send_answer now f message true true x.endpoint) message) [])
   comes_by_send now time f flow number carried unspent out few h between flows =
       let message = message_of number carried in
       let o = send_answer now f message true true x.endpoint in
@@ -186,68 +186,68 @@ module _ (setup : Setup) (n : ℕ) (m : Network) (x : Node) (there : IsAt n m x.
       (may_send now time f flow number carried unspent out few) (λ g. refl) (λ g taken t. send_takes (same_flow f g) o message taken t) between flows
 
   -- A CALL
-  call_posts : (b : Bool) (o : Option Refusal) (payload : List ℕ) → let h = x.halves in cond b (posted o (message_of (number_of (next_number h)) payload)) [] ≡ items_of_all (map spelled (cond b (made_as (made_of o h) payload) []))
-  call_posts true None payload = sym (append-nil (marked (message_of (number_of (next_number x.halves)) payload) true true false))
+  call_posts : (b : Bool) (o : Option Refusal) (payload : List ℕ) → let h = x.book in cond b (posted o (message_of (to_u64 (next_number h)) payload)) [] ≡ items_of_all (map spelled (cond b (made_as (made_of o h) payload) []))
+  call_posts true None payload = sym (append-nil (marked (message_of (to_u64 (next_number x.book)) payload) true true false))
   call_posts true (Some (refusal.Quiet until)) payload = refl
   call_posts true (Some (refusal.Full free)) payload = refl
   call_posts false o payload = refl
 
-  pub alike : (h : Halves) (y : Node) (us vs : Flow → List Item) → ((g : Flow) → us g ≡ vs g) → Comes setup n x h y m us → Comes setup n x h y m vs
+  pub alike : (h : CallBook) (y : Node) (us vs : Flow → List Item) → ((g : Flow) → us g ≡ vs g) → Comes setup n x h y m us → Comes setup n x h y m vs
   alike h y us vs same c = reposted setup n (λ g taken. taken ≡ us g) (λ g taken. taken ≡ vs g) x h y m (λ g taken is. is ∙ same g) c
 
-  call_goes : IsOn x → (now : ℕ) → KeepsTime setup m n now → (f : Flow) → IsFlow f → (payload : List ℕ) (patience : ℕ) → ReadsFlows (happens now (message_event f (message_of (number_of (next_number x.halves)) payload)) x)
+  call_goes : IsOn x → (now : ℕ) → KeepsTime setup m n now → (f : Flow) → IsFlow f → (payload : List ℕ) (patience : ℕ) → ReadsFlows (happens now (message_event f (message_of (to_u64 (next_number x.book)) payload)) x)
       → (o : Option Made) → first_refusal (call_refusals x f payload patience) ≡ o
-      → let r = unless o x (made_by now f (message_of (number_of (next_number x.halves)) payload) patience x) in Comes setup n x (mid_of o x.halves (called now f (message_of (number_of (next_number x.halves)) payload) patience x)) r.1 m (λ g. items_of_all (map spelled (cond (same_flow f g) (made_as r.0 payload) [])))
+      → let r = unless o x (made_by now f (message_of (to_u64 (next_number x.book)) payload) patience x) in Comes setup n x (mid_of o x.book (called now f (message_of (to_u64 (next_number x.book)) payload) patience x)) r.1 m (λ g. items_of_all (map spelled (cond (same_flow f g) (made_as r.0 payload) [])))
   call_goes on now time f flow payload patience flows (Some a) refused =
       let nothing : made_as a payload ≡ [] = first_none (λ (r : Made). made_as r payload) (call_refusals x f payload patience) a (refl, (refl, (refl, (refl, (refl, (refl, (refl, (refl, tt)))))))) refused in
-      alike x.halves x (λ g. []) _ (λ g. nothing_if (same_flow f g) (made_as a payload) nothing) (comes_nowhere setup n x m there on)
+      alike x.book x (λ g. []) _ (λ g. nothing_if (same_flow f g) (made_as a payload) nothing) (comes_nowhere setup n x m there on)
   call_goes on now time f flow payload patience flows None clear =
-      let h = x.halves in
-      let message = message_of (number_of (next_number h)) payload in
+      let h = x.book in
+      let message = message_of (to_u64 (next_number h)) payload in
       let refused = send_answer now f message true true x.endpoint in
       let deadline = moment_of now x.endpoint + patience in
       let c = all_clear (call_refusals x f payload patience) clear in
-      let heard = (happens now (message_event f message) x).halves in
+      let heard = (happens now (message_event f message) x).book in
       alike _ _ _ _ (λ k. call_posts (same_flow f k) refused payload)
-      (comes_by_send now time f flow (number_of (next_number h)) payload (goes_on x.endpoint.spent x.halves.closed c.0) (not_false _ c.1.0) c.1.1.1.1.1.0 (with_call_unless refused f (length message) deadline heard) (kept_between setup n refused f (length message) deadline heard) (flows_kept refused f (length message) deadline heard flows))
+      (comes_by_send now time f flow (to_u64 (next_number h)) payload (goes_on x.endpoint.spent x.book.closed c.0) (not_false _ c.1.0) c.1.1.1.1.1.0 (with_call_unless refused f (length message) deadline heard) (kept_between setup n refused f (length message) deadline heard) (flows_kept refused f (length message) deadline heard flows))
 
-  pub call_comes : IsOn x → (now : ℕ) → KeepsTime setup m n now → (f : Flow) → IsFlow f → (payload : List ℕ) (patience : ℕ) → ReadsFlows (happens now (message_event f (message_of (number_of (next_number x.halves)) payload)) x)
-      → Comes setup n x (mid_of (first_refusal (call_refusals x f payload patience)) x.halves (called now f (message_of (number_of (next_number x.halves)) payload) patience x)) (call now f payload patience x).1 m (λ g. items_of_all (map spelled (cond (same_flow f g) (made_as (call now f payload patience x).0 payload) [])))
+  pub call_comes : IsOn x → (now : ℕ) → KeepsTime setup m n now → (f : Flow) → IsFlow f → (payload : List ℕ) (patience : ℕ) → ReadsFlows (happens now (message_event f (message_of (to_u64 (next_number x.book)) payload)) x)
+      → Comes setup n x (mid_of (first_refusal (call_refusals x f payload patience)) x.book (called now f (message_of (to_u64 (next_number x.book)) payload) patience x)) (call now f payload patience x).1 m (λ g. items_of_all (map spelled (cond (same_flow f g) (made_as (call now f payload patience x).0 payload) [])))
   call_comes on now time f flow payload patience flows = call_goes on now time f flow payload patience flows (first_refusal (call_refusals x f payload patience)) refl
 
   -- A REPLY
-  reply_posts : (b : Bool) (o : Option Refusal) (token : Token) (payload : List ℕ) → cond b (posted o (message_of (number_of token.number) payload)) [] ≡ items_of_all (map spelled (cond b (replied_as (replied_of o) token payload) []))
-  reply_posts true None token payload = sym (append-nil (marked (message_of (number_of token.number) payload) true true false))
+  reply_posts : (b : Bool) (o : Option Refusal) (token : Token) (payload : List ℕ) → cond b (posted o (message_of (to_u64 token.number) payload)) [] ≡ items_of_all (map spelled (cond b (replied_as (replied_of o) token payload) []))
+  reply_posts true None token payload = sym (append-nil (marked (message_of (to_u64 token.number) payload) true true false))
   reply_posts true (Some (refusal.Quiet until)) token payload = refl
   reply_posts true (Some (refusal.Full free)) token payload = refl
   reply_posts false o token payload = refl
 
-  reply_goes : IsOn x → (now : ℕ) → KeepsTime setup m n now → (token : Token) → IsFlow token.flow → (payload : List ℕ) → ReadsFlows (happens now (message_event (reversed token.flow) (message_of (number_of token.number) payload)) x)
+  reply_goes : IsOn x → (now : ℕ) → KeepsTime setup m n now → (token : Token) → IsFlow token.flow → (payload : List ℕ) → ReadsFlows (happens now (message_event (reversed token.flow) (message_of (to_u64 token.number) payload)) x)
       → (o : Option Replied) → first_refusal (reply_refusals x token payload) ≡ o
-      → let r = unless o x (replied_by now token (message_of (number_of token.number) payload) x) in Comes setup n x (mid_of o x.halves (replied_mid now token (message_of (number_of token.number) payload) x)) r.1 m (λ g. items_of_all (map spelled (cond (same_flow (reversed token.flow) g) (replied_as r.0 token payload) [])))
+      → let r = unless o x (replied_by now token (message_of (to_u64 token.number) payload) x) in Comes setup n x (mid_of o x.book (replied_mid now token (message_of (to_u64 token.number) payload) x)) r.1 m (λ g. items_of_all (map spelled (cond (same_flow (reversed token.flow) g) (replied_as r.0 token payload) [])))
   reply_goes on now time token flow payload flows (Some a) refused =
       let nothing : replied_as a token payload ≡ [] = first_none (λ (r : Replied). replied_as r token payload) (reply_refusals x token payload) a (refl, (refl, (refl, (refl, (refl, tt))))) refused in
-      alike x.halves x (λ g. []) _ (λ g. nothing_if (same_flow (reversed token.flow) g) (replied_as a token payload) nothing) (comes_nowhere setup n x m there on)
+      alike x.book x (λ g. []) _ (λ g. nothing_if (same_flow (reversed token.flow) g) (replied_as a token payload) nothing) (comes_nowhere setup n x m there on)
   reply_goes on now time token flow payload flows None clear =
-      let message = message_of (number_of token.number) payload in
+      let message = message_of (to_u64 token.number) payload in
       let refused = send_answer now (reversed token.flow) message true true x.endpoint in
       let c = all_clear (reply_refusals x token payload) clear in
-      let heard = (happens now (message_event (reversed token.flow) message) x).halves in
+      let heard = (happens now (message_event (reversed token.flow) message) x).book in
       alike _ _ _ _ (λ k. reply_posts (same_flow (reversed token.flow) k) refused token payload)
-      (comes_by_send now time (reversed token.flow) (record { from = flow.to; from_port = flow.to_port; to = flow.from; to_port = flow.from_port }) (number_of token.number) payload (goes_on x.endpoint.spent x.halves.closed c.0) (not_false _ c.1.1.1.0) c.1.1.1.1.0 (forgotten_unless refused token heard) (forgot_between setup n refused token heard) (forgot_flows refused token heard flows))
+      (comes_by_send now time (reversed token.flow) (record { from = flow.to; from_port = flow.to_port; to = flow.from; to_port = flow.from_port }) (to_u64 token.number) payload (goes_on x.endpoint.spent x.book.closed c.0) (not_false _ c.1.1.1.0) c.1.1.1.1.0 (forgotten_unless refused token heard) (forgot_between setup n refused token heard) (forgot_flows refused token heard flows))
 
-  pub reply_comes : IsOn x → (now : ℕ) → KeepsTime setup m n now → (token : Token) → IsFlow token.flow → (payload : List ℕ) → ReadsFlows (happens now (message_event (reversed token.flow) (message_of (number_of token.number) payload)) x)
-      → Comes setup n x (mid_of (first_refusal (reply_refusals x token payload)) x.halves (replied_mid now token (message_of (number_of token.number) payload) x)) (reply now token payload x).1 m (λ g. items_of_all (map spelled (cond (same_flow (reversed token.flow) g) (replied_as (reply now token payload x).0 token payload) [])))
+  pub reply_comes : IsOn x → (now : ℕ) → KeepsTime setup m n now → (token : Token) → IsFlow token.flow → (payload : List ℕ) → ReadsFlows (happens now (message_event (reversed token.flow) (message_of (to_u64 token.number) payload)) x)
+      → Comes setup n x (mid_of (first_refusal (reply_refusals x token payload)) x.book (replied_mid now token (message_of (to_u64 token.number) payload) x)) (reply now token payload x).1 m (λ g. items_of_all (map spelled (cond (same_flow (reversed token.flow) g) (replied_as (reply now token payload x).0 token payload) [])))
   reply_comes on now time token flow payload flows = reply_goes on now time token flow payload flows (first_refusal (reply_refusals x token payload)) refl
 
   -- A TOKEN IS FORGOTTEN
-  forget_goes : IsOn x → (now : ℕ) → KeepsTime setup m n now → (token : Token) → ReadsFlows x → (o : Option Forgot) → first_refusal (forget_refusals x token) ≡ o → Comes setup n x (mid_of o x.halves (forgotten token x.halves)) (unless o x (forgot.Done, turn_end now (with_halves (forgotten token) x))).1 m (λ g. [])
+  forget_goes : IsOn x → (now : ℕ) → KeepsTime setup m n now → (token : Token) → ReadsFlows x → (o : Option Forgot) → first_refusal (forget_refusals x token) ≡ o → Comes setup n x (mid_of o x.book (forgotten token x.book)) (unless o x (forgot.Done, turn_end now (with_book (forgotten token) x))).1 m (λ g. [])
   forget_goes on now time token flows (Some a) is = comes_nowhere setup n x m there on
   forget_goes on now time token flows None is =
       let c = all_clear (forget_refusals x token) is in
-      comes_by_end setup n x m there now time Good law good (forgotten token x.halves) (forgotten_quiet token x.halves) flows (goes_on x.endpoint.spent x.halves.closed (goes_on (is_closed x) (not (is_open token x.halves)) c.0))
+      comes_by_end setup n x m there now time Good law good (forgotten token x.book) (forgotten_quiet token x.book) flows (goes_on x.endpoint.spent x.book.closed (goes_on (is_closed x) (not (is_open token x.book)) c.0))
 
-  pub forget_comes : IsOn x → (now : ℕ) → KeepsTime setup m n now → (token : Token) → ReadsFlows x → Comes setup n x (mid_of (first_refusal (forget_refusals x token)) x.halves (forgotten token x.halves)) (forget now token x).1 m (λ g. [])
+  pub forget_comes : IsOn x → (now : ℕ) → KeepsTime setup m n now → (token : Token) → ReadsFlows x → Comes setup n x (mid_of (first_refusal (forget_refusals x token)) x.book (forgotten token x.book)) (forget now token x).1 m (λ g. [])
   forget_comes on now time token flows = forget_goes on now time token flows (first_refusal (forget_refusals x token)) refl
 
   -- A TICK
@@ -255,14 +255,14 @@ module _ (setup : Setup) (n : ℕ) (m : Network) (x : Node) (there : IsAt n m x.
   tick_does now true h = absurd cc
   tick_does now false h = (refl, refl)
 
-  tick_goes : IsOn x → (now : ℕ) → KeepsTime setup m n now → ReadsFlows (happens now Tick x) → (b : Bool) → is_closed x ≡ b → Comes setup n x (cond b x.halves (happens now Tick x).halves) (cond {A = Ticked × Node} b (ticked.Spent, x) (ticked.Done, turn now Tick x)).1 m (λ g. [])
+  tick_goes : IsOn x → (now : ℕ) → KeepsTime setup m n now → ReadsFlows (happens now Tick x) → (b : Bool) → is_closed x ≡ b → Comes setup n x (cond b x.book (happens now Tick x).book) (cond {A = Ticked × Node} b (ticked.Spent, x) (ticked.Done, turn now Tick x)).1 m (λ g. [])
   tick_goes on now time flows true is = comes_nowhere setup n x m there on
   tick_goes on now time flows false is =
-      comes_by_event setup n x m there now time Good law good (CallTick now ticked.Done) (after_event now Tick x.endpoint) (happens now Tick x).halves (λ g. [])
-      (record { does = tick_does now x.endpoint.spent (goes_on x.endpoint.spent x.halves.closed is); keeps = time_later setup n m now time; frames = frames_in (acts_of (script_of now Tick x.endpoint)); appended = refl; unspent = refl })
-      (λ g. refl) (λ g taken t. t) (nothing_between setup n (happens now Tick x).halves) flows
+      comes_by_event setup n x m there now time Good law good (CallTick now ticked.Done) (after_event now Tick x.endpoint) (happens now Tick x).book (λ g. [])
+      (record { does = tick_does now x.endpoint.spent (goes_on x.endpoint.spent x.book.closed is); keeps = time_later setup n m now time; frames = frames_in (acts_of (script_of now Tick x.endpoint)); appended = refl; unspent = refl })
+      (λ g. refl) (λ g taken t. t) (nothing_between setup n (happens now Tick x).book) flows
 
-  pub tick_comes : IsOn x → (now : ℕ) → KeepsTime setup m n now → ReadsFlows (happens now Tick x) → Comes setup n x (cond (is_closed x) x.halves (happens now Tick x).halves) (tick now x).1 m (λ g. [])
+  pub tick_comes : IsOn x → (now : ℕ) → KeepsTime setup m n now → ReadsFlows (happens now Tick x) → Comes setup n x (cond (is_closed x) x.book (happens now Tick x).book) (tick now x).1 m (λ g. [])
   tick_comes on now time flows = tick_goes on now time flows (is_closed x) refl
 
   -- A DATAGRAM COMES
@@ -275,18 +275,18 @@ module _ (setup : Setup) (n : ℕ) (m : Network) (x : Node) (there : IsAt n m x.
   }
 
   arrive_goes : IsOn x → (now link : ℕ) (datagram : List ℕ) (waited : ℕ) → KeepsCall setup m n (CallArrive now link datagram waited arrived.Done) x.endpoint → (arrive_refusal link datagram waited x.endpoint ≡ None → ReadsFlows (happens now (arrive_event link datagram waited) x)) → (c : Bool) → (o : Option Received) → arrive_refusal link datagram waited x.endpoint ≡ o
-      → Comes setup n x (cond c x.halves (mid_of o x.halves (happens now (arrive_event link datagram waited) x).halves)) (cond {A = Received × Node} c (arrived.Spent, x) (or_counted o x (arrived.Done, turn now (arrive_event link datagram waited) x))).1 m (λ g. [])
+      → Comes setup n x (cond c x.book (mid_of o x.book (happens now (arrive_event link datagram waited) x).book)) (cond {A = Received × Node} c (arrived.Spent, x) (or_counted o x (arrived.Done, turn now (arrive_event link datagram waited) x))).1 m (λ g. [])
   arrive_goes on now link datagram waited keeps flows true o is = comes_nowhere setup n x m there on
   arrive_goes on now link datagram waited keeps flows false (Some a) is =
       let y : Node = record x { endpoint = with_refused x.endpoint } in
       let call = CallArrive now link datagram waited a in
       comes_by_step setup n x m y (Calls n call y.endpoint)
       (subst (DoesFrom setup n call y.endpoint) (sym there) (subst (λ (o : Option Received). Unless o a (with_refused x.endpoint) y.endpoint (ArriveDoes a now (arrive_event link datagram waited) x.endpoint y.endpoint)) (sym is) (refl, refl)), tt)
-      (subst (CallKeeps setup m n call) (sym there) keeps, tt) refl on (λ g. refl) (λ g. takes_more g (Calls n call y.endpoint) [] [] [] (λ first t. t) (takes_nothing g)) (λ g b tracks. tracks) (drop-length x.halves.happenings)
+      (subst (CallKeeps setup m n call) (sym there) keeps, tt) refl on (λ g. refl) (λ g. takes_more g (Calls n call y.endpoint) [] [] [] (λ first t. t) (takes_nothing g)) (λ g b tracks. tracks) (drop-length x.book.happenings)
   arrive_goes on now link datagram waited keeps flows false None is =
       let event = arrive_event link datagram waited in
       let after = after_event now event x.endpoint in
-      comes_by_event setup n x m there now keeps.0 Good law good (CallArrive now link datagram waited arrived.Done) after (happens now event x).halves (λ g. [])
+      comes_by_event setup n x m there now keeps.0 Good law good (CallArrive now link datagram waited arrived.Done) after (happens now event x).book (λ g. [])
       (record {
         does = subst (λ (o : Option Received). Unless o arrived.Done (with_refused x.endpoint) after (ArriveDoes arrived.Done now event x.endpoint after)) (sym is) (refl, refl);
         keeps = λ k later. (time_later setup n m now keeps.0 k later, λ clear. in_time_later link datagram waited k later (keeps.1 clear));
@@ -294,8 +294,8 @@ module _ (setup : Setup) (n : ℕ) (m : Network) (x : Node) (there : IsAt n m x.
         appended = refl;
         unspent = refl;
       })
-      (λ g. refl) (λ g taken t. t) (nothing_between setup n (happens now event x).halves) (flows is)
+      (λ g. refl) (λ g taken t. t) (nothing_between setup n (happens now event x).book) (flows is)
 
   pub arrive_comes : IsOn x → (now link : ℕ) (datagram : List ℕ) (waited : ℕ) → KeepsCall setup m n (CallArrive now link datagram waited arrived.Done) x.endpoint → (arrive_refusal link datagram waited x.endpoint ≡ None → ReadsFlows (happens now (arrive_event link datagram waited) x))
-      → Comes setup n x (cond (is_closed x) x.halves (mid_of (arrive_refusal link datagram waited x.endpoint) x.halves (happens now (arrive_event link datagram waited) x).halves)) (arrive now link datagram waited x).1 m (λ g. [])
+      → Comes setup n x (cond (is_closed x) x.book (mid_of (arrive_refusal link datagram waited x.endpoint) x.book (happens now (arrive_event link datagram waited) x).book)) (arrive now link datagram waited x).1 m (λ g. [])
   arrive_comes on now link datagram waited keeps flows = arrive_goes on now link datagram waited keeps flows (is_closed x) (arrive_refusal link datagram waited x.endpoint) refl

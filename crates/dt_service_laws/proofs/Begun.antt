@@ -9,7 +9,7 @@ use Rattle.dt_world_model.proofs.Tables.{flow_is, flow_self}
 use Rattle.dt_world_model.specs.Tables.{same_flow}
 use Rattle.dt_calls_model.specs.Messages.{Piece, begun_with}
 use Rattle.dt_messages.specs.Joining.{begun_within}
-use Rattle.dt_service_model.specs.Halves.{Halves, most_octets}
+use Rattle.dt_service_model.specs.CallBook.{CallBook, longest_message}
 use Rattle.dt_service_model.specs.Whole.{begun_at, begun_of, grown, is_of, with_begun, without_begun}
 use Rattle.dt_service_laws.proofs.Moves.{Tracks}
 use Rattle.dt_service_laws.proofs.Pieces.{begun_stays}
@@ -107,18 +107,18 @@ back_same f (Some octets) b es none (inr same) = inr (record {
 })
 
 -- A PIECE
-pub begun_same : (f : Flow) (b : Option (List ℕ)) (h : Halves) → Tracks f b h.begun → IsSameOrNone (begun_of f h) b
+pub begun_same : (f : Flow) (b : Option (List ℕ)) (h : CallBook) → Tracks f b h.begun → IsSameOrNone (begun_of f h) b
 begun_same f b h tracks = (is_out f h.begun b tracks).same
 
-pub piece_tracks : (f : Flow) (b : Option (List ℕ)) (p : Piece) (h : Halves) → Tracks f b h.begun → Tracks f (begun_with b p) (grown f (begun_of f h) p h).begun
+pub piece_tracks : (f : Flow) (b : Option (List ℕ)) (p : Piece) (h : CallBook) → Tracks f b h.begun → Tracks f (begun_with b p) (grown f (begun_of f h) p h).begun
 piece_tracks f b p h tracks =
     let out = is_out f h.begun b tracks in
-    back_same f (begun_within (Some most_octets) (begun_of f h) p) (begun_with b p) (without_begun (position (is_of f) h.begun) h.begun) out.none (begun_stays (Some most_octets) (begun_of f h) b p out.same)
+    back_same f (begun_within (Some longest_message) (begun_of f h) p) (begun_with b p) (without_begun (position (is_of f) h.begun) h.begun) out.none (begun_stays (Some longest_message) (begun_of f h) b p out.same)
 
-pub other_tracks : (f g : Flow) (b : Option (List ℕ)) (p : Piece) (h : Halves) → same_flow f g ≡ false → Tracks g b h.begun → Tracks g b (grown f (begun_of f h) p h).begun
+pub other_tracks : (f g : Flow) (b : Option (List ℕ)) (p : Piece) (h : CallBook) → same_flow f g ≡ false → Tracks g b h.begun → Tracks g b (grown f (begun_of f h) p h).begun
 other_tracks f g b p h apart tracks =
     tracks_alike g b h.begun (grown f (begun_of f h) p h).begun
-    (back_other f g (begun_within (Some most_octets) (begun_of f h) p) (without_begun (position (is_of f) h.begun) h.begun) apart ∙ left_other f h.begun g apart) tracks
+    (back_other f g (begun_within (Some longest_message) (begun_of f h) p) (without_begun (position (is_of f) h.begun) h.begun) apart ∙ left_other f h.begun g apart) tracks
 
 -- what is swept is of flows without a receiver
 pub swept_tracks : (keep : Flow × List ℕ → Bool) (g : Flow) (b : Option (List ℕ)) (es : Entries) → Tracks g b es → Tracks g b (filter keep es)

@@ -31,11 +31,11 @@ use Rattle.dt_service_model.specs.declared.names.CallNumber.{CallNumber}
 use Rattle.dt_service_model.specs.declared.names.Token.{Token}
 use Rattle.dt_service_model.specs.Asked.{call_refusals, forget_refusals, forgotten, forgotten_unless, goes_out, is_closed, is_one_too_many, message_event, next_number, reply_refusals, with_call_unless}
 use Rattle.dt_service_model.specs.Ends.{close}
-use Rattle.dt_service_model.specs.Halves.{Halves}
+use Rattle.dt_service_model.specs.CallBook.{CallBook}
 use Rattle.dt_service_model.specs.Hearing.{hear_all}
-use Rattle.dt_service_model.specs.Names.{number_of}
+use Rattle.dt_service_model.specs.Names.{to_u64}
 use Rattle.dt_service_model.specs.Stopping.{ArriveStops, CallStops, Closed, EventStops, ForgetStops, ReplyStops, TickStops, TurnStops, behind_event, breaks_off, call_kept, hears_part, in_end, in_event, not_done, token_dropped}
-use Rattle.dt_service_model.specs.Turns.{Node, happens, with_halves}
+use Rattle.dt_service_model.specs.Turns.{Node, happens, with_book}
 use Rattle.dt_service_model.specs.Whole.{is_open}
 use Rattle.dt_service_laws.specs.Histories.{Message, asked_as, call_by, count_of, reply_by, spelled}
 use Rattle.dt_service_laws.specs.Premises.{BreaksBy}
@@ -70,9 +70,9 @@ broken_takes : (b : Bool) (message : List ℕ) (taken : List Item) → TakesIf b
 broken_takes true message taken h = h
 broken_takes false message taken h = inr h
 
-asked_posts : {A : Type 0} (o : Option A) (number : CallNumber) (payload : List ℕ) (b : Bool) → o ≡ None → cond b (marked (message_of (number_of number) payload) true true false) [] ≡ items_of_all (map spelled (cond b (asked_as o number payload) []))
+asked_posts : {A : Type 0} (o : Option A) (number : CallNumber) (payload : List ℕ) (b : Bool) → o ≡ None → cond b (marked (message_of (to_u64 number) payload) true true false) [] ≡ items_of_all (map spelled (cond b (asked_as o number payload) []))
 asked_posts (Some r) number payload b is = absurd cc
-asked_posts None number payload true is = sym (append-nil (marked (message_of (number_of number) payload) true true false))
+asked_posts None number payload true is = sym (append-nil (marked (message_of (to_u64 number) payload) true true false))
 asked_posts None number payload false is = refl
 
 posted_as : (ms : List Message) (items taken : List Item) → items ≡ items_of_all (map spelled ms) → (taken ≡ items) ⊎ (taken ≡ []) → IsPosted false ms taken
@@ -82,16 +82,16 @@ posted_as ms items taken same (inr nothing) = inr nothing
 module _ (setup : Setup) (n : ℕ) where
   -- what is done comes to steps, and what stands between it and the end of its turn
   pub record Came (deed : Deed) (x y : Node) (m : Network) : Type 0 where
-    pub mid : Halves
-    pub of : AreOf (λ g. call_by g deed x) x.halves.calls mid.calls
-    pub gone : GoneBy (λ t. reply_by t.flow deed x) x.halves mid
+    pub mid : CallBook
+    pub of : AreOf (λ g. call_by g deed x) x.book.calls mid.calls
+    pub gone : GoneBy (λ t. reply_by t.flow deed x) x.book mid
     pub reaches : Reaches setup n x mid y m (λ g taken. IsPosted (finds_memory deed) (sent_on g deed x) taken)
 
-  pub posted_nothing : (deed : Deed) (x : Node) (h : Halves) (y : Node) (m : Network) → ((g : Flow) → sent_on g deed x ≡ []) → Comes setup n x h y m (λ g. []) → Reaches setup n x h y m (λ g taken. IsPosted (finds_memory deed) (sent_on g deed x) taken)
+  pub posted_nothing : (deed : Deed) (x : Node) (h : CallBook) (y : Node) (m : Network) → ((g : Flow) → sent_on g deed x ≡ []) → Comes setup n x h y m (λ g. []) → Reaches setup n x h y m (λ g taken. IsPosted (finds_memory deed) (sent_on g deed x) taken)
   posted_nothing deed x h y m nothing c = reposted setup n AreNone (λ g taken. IsPosted (finds_memory deed) (sent_on g deed x) taken) x h y m (λ g taken is. subst (λ (ms : List Message). IsPosted (finds_memory deed) ms taken) (sym (nothing g)) (posted_none (finds_memory deed) taken is)) c
 
   -- where the node closed no token is open
-  without_tokens : (P : Flow → List Item → Type 0) (x : Node) (h : Halves) (y : Node) (m : Network) → y.halves.tokens ≡ [] → Reaches setup n x h y m P → Reaches setup n x (record h { tokens = [] }) y m P
+  without_tokens : (P : Flow → List Item → Type 0) (x : Node) (h : CallBook) (y : Node) (m : Network) → y.book.tokens ≡ [] → Reaches setup n x h y m P → Reaches setup n x (record h { tokens = [] }) y m P
   without_tokens P x h y m none c = record {
     steps = c.steps;
     are = c.are;
@@ -108,14 +108,14 @@ module _ (setup : Setup) (n : ℕ) where
   }
 
   -- a turn that stopped leaves its node closed
-  broke_to : (P : Flow → List Item → Type 0) (deed : Deed) (x st y : Node) (h : Halves) (m : Network) → y ≡ with_halves close st → AreOf (λ g. call_by g (FindsNoMemory deed y) x) x.halves.calls h.calls → GoneBy (λ t. reply_by t.flow (FindsNoMemory deed y) x) x.halves (record h { tokens = [] })
-      → ((g : Flow) (taken : List Item) → P g taken → IsPosted false (sent_on g (FindsNoMemory deed y) x) taken) → Reaches setup n x h (with_halves close st) m P → Came (FindsNoMemory deed y) x y m
+  broke_to : (P : Flow → List Item → Type 0) (deed : Deed) (x st y : Node) (h : CallBook) (m : Network) → y ≡ with_book close st → AreOf (λ g. call_by g (FindsNoMemory deed y) x) x.book.calls h.calls → GoneBy (λ t. reply_by t.flow (FindsNoMemory deed y) x) x.book (record h { tokens = [] })
+      → ((g : Flow) (taken : List Item) → P g taken → IsPosted false (sent_on g (FindsNoMemory deed y) x) taken) → Reaches setup n x h (with_book close st) m P → Came (FindsNoMemory deed y) x y m
   broke_to P deed x st y h m is of gone posts c = record {
     mid = record h { tokens = [] };
     of = of;
     gone = gone;
     reaches = reposted setup n P (λ g taken. IsPosted false (sent_on g (FindsNoMemory deed y) x) taken) x (record h { tokens = [] }) y m posts
-        (subst (λ (z : Node). Reaches setup n x (record h { tokens = [] }) z m P) (sym is) (without_tokens P x h (with_halves close st) m refl c));
+        (subst (λ (z : Node). Reaches setup n x (record h { tokens = [] }) z m P) (sym is) (without_tokens P x h (with_book close st) m refl c));
   }
 
 module _ (setup : Setup) (Good : Network → Type 0) (law : IsLawful setup Good) (n : ℕ) (m : Network) (x : Node) (there : IsAt n m x.endpoint) (good : Good m) where
@@ -132,12 +132,12 @@ module _ (setup : Setup) (Good : Network → Type 0) (law : IsLawful setup Good)
   last_done : (P : Flow → List Item → Type 0) (now : ℕ) (event : Event (Unit {0})) (c : EventCalls P now event) → LastCall setup Good law n m P c.done x (after_event now event x.endpoint)
   last_done P now event c = record { can = can_of setup Good law n m c.done x.endpoint (after_event now event x.endpoint) c.may; takes = c.takes; reads = λ g other k at fine. c.reads g }
 
-  abbrev Ended : (P : Flow → List Item → Type 0) → (h : Halves) → (st : Node) → Type 0
-  Ended P h st = Reaches setup n x h (with_halves close st) m P
+  abbrev Ended : (P : Flow → List Item → Type 0) → (h : CallBook) → (st : Node) → Type 0
+  Ended P h st = Reaches setup n x h (with_book close st) m P
 
   module _ (now : ℕ) (time : KeepsTime setup m n now) where
-    by_stop : (P : Flow → List Item → Type 0) (st : Node) → Stop setup Good law n m P x (with_halves close st) → Ended P x.halves st
-    by_stop P st s = reaches_by_end setup n x m there now time Good law good P x.halves (with_halves close st) s.steps (quiet_itself x.halves) s.way (inr refl)
+    by_stop : (P : Flow → List Item → Type 0) (st : Node) → Stop setup Good law n m P x (with_book close st) → Ended P x.book st
+    by_stop P st s = reaches_by_end setup n x m there now time Good law good P x.book (with_book close st) s.steps (quiet_itself x.book) s.way (inr refl)
 
     stop_posts : (P : Flow → List Item → Type 0) (y : Node) → ((g : Flow) → P g []) → Stop setup Good law n m AreNone x y → Stop setup Good law n m P x y
     stop_posts P y nothing s =
@@ -147,23 +147,23 @@ module _ (setup : Setup) (Good : Network → Type 0) (law : IsLawful setup Good)
           way = record { runs = w.runs; takes = λ g taken t. subst (P g) (sym (w.takes g taken t)) (nothing g); tells = w.tells; answers = w.answers; waits = w.waits; elsewhere = w.elsewhere };
         }
 
-    event_came : (P : Flow → List Item → Type 0) (event : Event (Unit {0})) (st : Node) → EventCalls P now event → EventStops now event x st → Stop setup Good law n m P x (with_halves close st)
-    event_came P event st c (breaks_off e b is) = subst (λ (k : Node). Stop setup Good law n m P x (with_halves close k)) (sym is) (broke_stop setup Good law n m P c.broken x e (c.cut e b))
-    event_came P event st c (hears_part count is) = subst (λ (k : Node). Stop setup Good law n m P x (with_halves close k)) (sym is) (heard_stop setup Good law n m P c.done x (after_event now event x.endpoint) count (last_done P now event c))
+    event_came : (P : Flow → List Item → Type 0) (event : Event (Unit {0})) (st : Node) → EventCalls P now event → EventStops now event x st → Stop setup Good law n m P x (with_book close st)
+    event_came P event st c (breaks_off e b is) = subst (λ (k : Node). Stop setup Good law n m P x (with_book close k)) (sym is) (broke_stop setup Good law n m P c.broken x e (c.cut e b))
+    event_came P event st c (hears_part count is) = subst (λ (k : Node). Stop setup Good law n m P x (with_book close k)) (sym is) (heard_stop setup Good law n m P c.done x (after_event now event x.endpoint) count (last_done P now event c))
 
-    turn_came : (P : Flow → List Item → Type 0) (event : Event (Unit {0})) (change : Halves → Halves) (st : Node) → EventCalls P now event → x.endpoint.spent ≡ false → IsBetween setup n (happens now event x).halves (change (happens now event x).halves) → All IsFlow (change (happens now event x).halves).unread
-        → TurnStops now event change x st → Ended P x.halves st ⊎ Ended P (change (happens now event x).halves) st
+    turn_came : (P : Flow → List Item → Type 0) (event : Event (Unit {0})) (change : CallBook → CallBook) (st : Node) → EventCalls P now event → x.endpoint.spent ≡ false → IsBetween setup n (happens now event x).book (change (happens now event x).book) → All IsFlow (change (happens now event x).book).unread
+        → TurnStops now event change x st → Ended P x.book st ⊎ Ended P (change (happens now event x).book) st
     turn_came P event change st c unspent between flows (not_done is) =
-        inl (by_stop P st (stop_posts P (with_halves close st) c.nothing (subst (λ (k : Node). Stop setup Good law n m AreNone x (with_halves close k)) (sym is) (stop_here setup Good law n m x unspent))))
+        inl (by_stop P st (stop_posts P (with_book close st) c.nothing (subst (λ (k : Node). Stop setup Good law n m AreNone x (with_book close k)) (sym is) (stop_here setup Good law n m x unspent))))
     turn_came P event change st c unspent between flows (in_event stops) = inl (by_stop P st (event_came P event st c stops))
     turn_came P event change st c unspent between flows (behind_event is) =
         let after = after_event now event x.endpoint in
-        let heard = hear_all after.reports x.halves in
-        inl (by_stop P st (subst (λ (k : Node). Stop setup Good law n m P x (with_halves close k)) (sym is) (lost_stop setup Good law n m P c.done x after heard.begun heard.counts (last_done P now event c))))
+        let heard = hear_all after.reports x.book in
+        inl (by_stop P st (subst (λ (k : Node). Stop setup Good law n m P x (with_book close k)) (sym is) (lost_stop setup Good law n m P c.done x after heard.begun heard.counts (last_done P now event c))))
     turn_came P event change st c unspent between flows (in_end stops) =
-        let h = change (happens now event x).halves in
-        let s = end_stopped setup Good law n m now time (with_halves change (happens now event x)) st flows refl stops in
-        inr (reaches_by_event setup n x m there now time Good law good P c.done (after_event now event x.endpoint) h (with_halves close st) s.steps c.may c.reads c.takes between s.way (inr refl))
+        let h = change (happens now event x).book in
+        let s = end_stopped setup Good law n m now time (with_book change (happens now event x)) st flows refl stops in
+        inr (reaches_by_event setup n x m there now time Good law good P c.done (after_event now event x.endpoint) h (with_book close st) s.steps c.may c.reads c.takes between s.way (inr refl))
 
     -- SENDS
     send_calls : (f : Flow) → IsFlow f → (number : ℕ) (carried : List ℕ) → x.endpoint.spent ≡ false → goes_out x f ≡ true → is_one_too_many x carried ≡ false → let message = message_of number carried in EventCalls (AllOrNone f message) now (message_event f message)
@@ -190,71 +190,71 @@ module _ (setup : Setup) (Good : Network → Type 0) (law : IsLawful setup Good)
         }
 
     -- A CALL
-    call_came : (f : Flow) → IsFlow f → (payload : List ℕ) (patience : ℕ) (y : Node) → let message = message_of (number_of (next_number x.halves)) payload in All IsFlow (happens now (message_event f message) x).halves.unread → Closed (CallStops now f payload patience x) y → Came setup n (FindsNoMemory (MakesCall now f payload patience) y) x y m
+    call_came : (f : Flow) → IsFlow f → (payload : List ℕ) (patience : ℕ) (y : Node) → let message = message_of (to_u64 (next_number x.book)) payload in All IsFlow (happens now (message_event f message) x).book.unread → Closed (CallStops now f payload patience x) y → Came setup n (FindsNoMemory (MakesCall now f payload patience) y) x y m
     call_came f flow payload patience y flows closed =
-        let message = message_of (number_of (next_number x.halves)) payload in
+        let message = message_of (to_u64 (next_number x.book)) payload in
         let deed = MakesCall now f payload patience in
         let event = message_event f message in
         let st = closed.stopped in
         let o = send_answer now f message true true x.endpoint in
         let deadline = moment_of now x.endpoint + patience in
-        let heard = (happens now event x).halves in
+        let heard = (happens now event x).book in
         let clear = closed.stops.clear in
         let c = all_clear (call_refusals x f payload patience) clear in
-        let unspent = goes_on x.endpoint.spent x.halves.closed c.0 in
+        let unspent = goes_on x.endpoint.spent x.book.closed c.0 in
         let P = AllOrNone f message in
-        let asked : (calls : List Kept) → AreOf (λ g. cond (same_flow f g) (asked_as {A = Made} None (next_number x.halves) payload) []) x.halves.calls calls → AreOf (λ g. call_by g (FindsNoMemory deed y) x) x.halves.calls calls =
-        λ calls of. subst (λ (r : Option Made). AreOf (λ g. cond (same_flow f g) (asked_as r (next_number x.halves) payload) []) x.halves.calls calls) (sym clear) of in
+        let asked : (calls : List Kept) → AreOf (λ g. cond (same_flow f g) (asked_as {A = Made} None (next_number x.book) payload) []) x.book.calls calls → AreOf (λ g. call_by g (FindsNoMemory deed y) x) x.book.calls calls =
+        λ calls of. subst (λ (r : Option Made). AreOf (λ g. cond (same_flow f g) (asked_as r (next_number x.book) payload) []) x.book.calls calls) (sym clear) of in
         let posts : (g : Flow) (taken : List Item) → P g taken → IsPosted false (sent_on g (FindsNoMemory deed y) x) taken =
         λ g taken p. posted_as (sent_on g (FindsNoMemory deed y) x) (cond (same_flow f g) (marked message true true false) []) taken
-        (asked_posts (first_refusal (call_refusals x f payload patience)) (next_number x.halves) payload (same_flow f g) clear ∙ ap (λ (ms : List Message). items_of_all (map spelled ms)) (sym (append-nil (call_by g (FindsNoMemory deed y) x)))) p in
+        (asked_posts (first_refusal (call_refusals x f payload patience)) (next_number x.book) payload (same_flow f g) clear ∙ ap (λ (ms : List Message). items_of_all (map spelled ms)) (sym (append-nil (call_by g (FindsNoMemory deed y) x)))) p in
         let keeps = happens_keeps now event x in
-        let same : next_number heard ≡ next_number x.halves = ap (λ (k : ℕ). let r : CallNumber = record { life = k; count = heard.count } in r) keeps.life ∙ ap (λ (k : ℕ). let r : CallNumber = record { life = x.halves.life; count = k } in r) keeps.count in
-        elim (turn_came P event (call_kept now f message patience x) st (send_calls f flow (number_of (next_number x.halves)) payload unspent (not_false _ c.1.0) c.1.1.1.1.1.0) unspent (kept_between setup n o f (length message) deadline heard) (flows_kept o f (length message) deadline heard flows) closed.stops.turn) [
-          | inl r ↦ broke_to setup n P deed x st y x.halves m closed.closed (asked x.halves.calls (kept_of (λ g. cond (same_flow f g) (asked_as {A = Made} None (next_number x.halves) payload) []) x.halves.calls x.halves.calls (kept_itself x.halves.calls))) (λ t. omega arith) posts r
-          | inr r ↦ broke_to setup n P deed x st y (with_call_unless o f (length message) deadline heard) m closed.closed (asked (with_call_unless o f (length message) deadline heard).calls (asked_of_call o f (length message) deadline payload x.halves heard same keeps.waits)) (λ t. omega arith) posts r
+        let same : next_number heard ≡ next_number x.book = ap (λ (k : ℕ). let r : CallNumber = record { life = k; count = heard.count } in r) keeps.life ∙ ap (λ (k : ℕ). let r : CallNumber = record { life = x.book.life; count = k } in r) keeps.count in
+        elim (turn_came P event (call_kept now f message patience x) st (send_calls f flow (to_u64 (next_number x.book)) payload unspent (not_false _ c.1.0) c.1.1.1.1.1.0) unspent (kept_between setup n o f (length message) deadline heard) (flows_kept o f (length message) deadline heard flows) closed.stops.turn) [
+          | inl r ↦ broke_to setup n P deed x st y x.book m closed.closed (asked x.book.calls (kept_of (λ g. cond (same_flow f g) (asked_as {A = Made} None (next_number x.book) payload) []) x.book.calls x.book.calls (kept_itself x.book.calls))) (λ t. omega arith) posts r
+          | inr r ↦ broke_to setup n P deed x st y (with_call_unless o f (length message) deadline heard) m closed.closed (asked (with_call_unless o f (length message) deadline heard).calls (asked_of_call o f (length message) deadline payload x.book heard same keeps.waits)) (λ t. omega arith) posts r
         ]
 
     -- A REPLY
-    reply_came : (token : Token) → IsFlow token.flow → (payload : List ℕ) (y : Node) → let message = message_of (number_of token.number) payload in All IsFlow (happens now (message_event (reversed token.flow) message) x).halves.unread → Closed (ReplyStops now token payload x) y → Came setup n (FindsNoMemory (GivesReply now token payload) y) x y m
+    reply_came : (token : Token) → IsFlow token.flow → (payload : List ℕ) (y : Node) → let message = message_of (to_u64 token.number) payload in All IsFlow (happens now (message_event (reversed token.flow) message) x).book.unread → Closed (ReplyStops now token payload x) y → Came setup n (FindsNoMemory (GivesReply now token payload) y) x y m
     reply_came token flow payload y flows closed =
-        let message = message_of (number_of token.number) payload in
+        let message = message_of (to_u64 token.number) payload in
         let deed = GivesReply now token payload in
         let f = reversed token.flow in
         let event = message_event f message in
         let st = closed.stopped in
         let o = send_answer now f message true true x.endpoint in
-        let heard = (happens now event x).halves in
+        let heard = (happens now event x).book in
         let clear = closed.stops.clear in
         let c = all_clear (reply_refusals x token payload) clear in
-        let unspent = goes_on x.endpoint.spent x.halves.closed c.0 in
+        let unspent = goes_on x.endpoint.spent x.book.closed c.0 in
         let P = AllOrNone f message in
-        let gone : (h : Halves) → h.tokens ≡ [] → GoneBy (λ t. reply_by t.flow (FindsNoMemory deed y) x) x.halves h =
-        λ h none. subst (λ (r : Option Replied). GoneBy (λ t. cond (same_flow token.flow t.flow) (asked_as r token.number payload) []) x.halves h) (sym clear) (asked_gone token payload x.halves h (not_false _ c.1.1.0) none) in
+        let gone : (h : CallBook) → h.tokens ≡ [] → GoneBy (λ t. reply_by t.flow (FindsNoMemory deed y) x) x.book h =
+        λ h none. subst (λ (r : Option Replied). GoneBy (λ t. cond (same_flow token.flow t.flow) (asked_as r token.number payload) []) x.book h) (sym clear) (asked_gone token payload x.book h (not_false _ c.1.1.0) none) in
         let posts : (g : Flow) (taken : List Item) → P g taken → IsPosted false (sent_on g (FindsNoMemory deed y) x) taken =
         λ g taken p. posted_as (sent_on g (FindsNoMemory deed y) x) (cond (same_flow f g) (marked message true true false) []) taken (asked_posts (first_refusal (reply_refusals x token payload)) token.number payload (same_flow f g) clear ∙ ap (λ (b : Bool). items_of_all (map spelled (cond b (asked_as (first_refusal (reply_refusals x token payload)) token.number payload) []))) (same_reversed token.flow (reversed g))) p in
         let back : IsFlow f = record { from = flow.to; from_port = flow.to_port; to = flow.from; to_port = flow.from_port } in
         let keeps = happens_keeps now event x in
-        elim (turn_came P event (token_dropped now token message x) st (send_calls f back (number_of token.number) payload unspent (not_false _ c.1.1.1.0) c.1.1.1.1.0) unspent (forgot_between setup n o token heard) (forgot_flows o token heard flows) closed.stops.turn) [
-          | inl r ↦ broke_to setup n P deed x st y x.halves m closed.closed (kept_of (λ g. []) x.halves.calls x.halves.calls (kept_itself x.halves.calls)) (gone (record (x.halves) { tokens = [] }) refl) posts r
-          | inr r ↦ broke_to setup n P deed x st y (forgotten_unless o token heard) m closed.closed (kept_of (λ g. []) x.halves.calls (forgotten_unless o token heard).calls (forgot_kept o token x.halves.calls heard keeps.waits)) (gone (record (forgotten_unless o token heard) { tokens = [] }) refl) posts r
+        elim (turn_came P event (token_dropped now token message x) st (send_calls f back (to_u64 token.number) payload unspent (not_false _ c.1.1.1.0) c.1.1.1.1.0) unspent (forgot_between setup n o token heard) (forgot_flows o token heard flows) closed.stops.turn) [
+          | inl r ↦ broke_to setup n P deed x st y x.book m closed.closed (kept_of (λ g. []) x.book.calls x.book.calls (kept_itself x.book.calls)) (gone (record (x.book) { tokens = [] }) refl) posts r
+          | inr r ↦ broke_to setup n P deed x st y (forgotten_unless o token heard) m closed.closed (kept_of (λ g. []) x.book.calls (forgotten_unless o token heard).calls (forgot_kept o token x.book.calls heard keeps.waits)) (gone (record (forgotten_unless o token heard) { tokens = [] }) refl) posts r
         ]
 
     -- A TICK, and a datagram
-    plain_came : (deed : Deed) (event : Event (Unit {0})) (st y : Node) → ((g : Flow) → call_by g (FindsNoMemory deed y) x ≡ []) → ((t : Token) → reply_by t.flow (FindsNoMemory deed y) x ≡ []) → EventCalls AreNone now event → x.endpoint.spent ≡ false → All IsFlow (happens now event x).halves.unread → TurnStops now event (λ h. h) x st → y ≡ with_halves close st
+    plain_came : (deed : Deed) (event : Event (Unit {0})) (st y : Node) → ((g : Flow) → call_by g (FindsNoMemory deed y) x ≡ []) → ((t : Token) → reply_by t.flow (FindsNoMemory deed y) x ≡ []) → EventCalls AreNone now event → x.endpoint.spent ≡ false → All IsFlow (happens now event x).book.unread → TurnStops now event (λ h. h) x st → y ≡ with_book close st
         → Came setup n (FindsNoMemory deed y) x y m
     plain_came deed event st y no_call no_reply calls unspent flows turn is =
-        let heard = (happens now event x).halves in
-        let gone : (h : Halves) → GoneBy (λ t. reply_by t.flow (FindsNoMemory deed y) x) x.halves (record h { tokens = [] }) = λ h t. (let no = ap (count_of t.number) (no_reply t) in omega (arith, no)) in
-        let of : (h : Halves) → AreKeptFrom x.halves.calls h.calls → AreOf (λ g. call_by g (FindsNoMemory deed y) x) x.halves.calls h.calls = λ h kept. kept_of (λ g. call_by g (FindsNoMemory deed y) x) x.halves.calls h.calls kept in
+        let heard = (happens now event x).book in
+        let gone : (h : CallBook) → GoneBy (λ t. reply_by t.flow (FindsNoMemory deed y) x) x.book (record h { tokens = [] }) = λ h t. (let no = ap (count_of t.number) (no_reply t) in omega (arith, no)) in
+        let of : (h : CallBook) → AreKeptFrom x.book.calls h.calls → AreOf (λ g. call_by g (FindsNoMemory deed y) x) x.book.calls h.calls = λ h kept. kept_of (λ g. call_by g (FindsNoMemory deed y) x) x.book.calls h.calls kept in
         elim (turn_came AreNone event (λ h. h) st calls unspent (nothing_between setup n heard) flows turn) [
-          | inl r ↦ broke_to setup n AreNone deed x st y x.halves m is (of x.halves (kept_itself x.halves.calls)) (gone x.halves) (λ g taken none. inr none) r
+          | inl r ↦ broke_to setup n AreNone deed x st y x.book m is (of x.book (kept_itself x.book.calls)) (gone x.book) (λ g taken none. inr none) r
           | inr r ↦ broke_to setup n AreNone deed x st y heard m is (of heard (happens_keeps now event x).waits) (gone heard) (λ g taken none. inr none) r
         ]
 
-    tick_came : (y : Node) → All IsFlow (happens now Tick x).halves.unread → Closed (TickStops now x) y → Came setup n (FindsNoMemory (Ticks now) y) x y m
+    tick_came : (y : Node) → All IsFlow (happens now Tick x).book.unread → Closed (TickStops now x) y → Came setup n (FindsNoMemory (Ticks now) y) x y m
     tick_came y flows closed =
-        let unspent = goes_on x.endpoint.spent x.halves.closed closed.stops.clear in
+        let unspent = goes_on x.endpoint.spent x.book.closed closed.stops.clear in
         let calls : EventCalls AreNone now Tick = record {
           done = CallTick now ticked.Done;
           may = record { does = tick_does setup n m x there Good law good now x.endpoint.spent unspent; keeps = time_later setup n m now time; frames = frames_in (acts_of (script_of now Tick x.endpoint)); appended = refl; unspent = refl };
@@ -274,11 +274,11 @@ module _ (setup : Setup) (Good : Network → Type 0) (law : IsLawful setup Good)
         tick_breaks true e b h = absurd cc
         tick_breaks false e b h = b
 
-    arrive_came : (link : ℕ) (datagram : List ℕ) (waited : ℕ) (y : Node) → KeepsCall setup m n (CallArrive now link datagram waited arrived.Done) x.endpoint → All IsFlow (happens now (arrive_event link datagram waited) x).halves.unread → Closed (ArriveStops now link datagram waited x) y → Came setup n (FindsNoMemory (Arrives now link datagram waited) y) x y m
+    arrive_came : (link : ℕ) (datagram : List ℕ) (waited : ℕ) (y : Node) → KeepsCall setup m n (CallArrive now link datagram waited arrived.Done) x.endpoint → All IsFlow (happens now (arrive_event link datagram waited) x).book.unread → Closed (ArriveStops now link datagram waited x) y → Came setup n (FindsNoMemory (Arrives now link datagram waited) y) x y m
     arrive_came link datagram waited y keeps flows closed =
         let event = arrive_event link datagram waited in
         let after = after_event now event x.endpoint in
-        let unspent = goes_on x.endpoint.spent x.halves.closed closed.stops.clear in
+        let unspent = goes_on x.endpoint.spent x.book.closed closed.stops.clear in
         let none = closed.stops.unrefused in
         let calls : EventCalls AreNone now event = record {
           done = CallArrive now link datagram waited arrived.Done;
@@ -307,15 +307,15 @@ module _ (setup : Setup) (Good : Network → Type 0) (law : IsLawful setup Good)
         plain_came (Arrives now link datagram waited) event closed.stopped y (λ g. refl) (λ t. refl) calls unspent flows closed.stops.turn closed.closed
 
     -- A TOKEN IS FORGOTTEN
-    forget_came : (token : Token) (y : Node) → All IsFlow x.halves.unread → Closed (ForgetStops now token x) y → Came setup n (FindsNoMemory (Forgets now token) y) x y m
+    forget_came : (token : Token) (y : Node) → All IsFlow x.book.unread → Closed (ForgetStops now token x) y → Came setup n (FindsNoMemory (Forgets now token) y) x y m
     forget_came token y flows closed =
         let st = closed.stopped in
         let c = all_clear (forget_refusals x token) closed.stops.clear in
-        let unspent = goes_on x.endpoint.spent x.halves.closed (goes_on (is_closed x) (not (is_open token x.halves)) c.0) in
-        let z = with_halves (forgotten token) x in
+        let unspent = goes_on x.endpoint.spent x.book.closed (goes_on (is_closed x) (not (is_open token x.book)) c.0) in
+        let z = with_book (forgotten token) x in
         let s = end_stopped setup Good law n m now time z st flows unspent closed.stops.turn in
-        broke_to setup n AreNone (Forgets now token) x st y (forgotten token x.halves) m closed.closed (kept_of (λ g. []) x.halves.calls x.halves.calls (kept_itself x.halves.calls)) (λ t. omega arith) (λ g taken none. inr none)
-        (reaches_by_end setup n x m there now time Good law good AreNone (forgotten token x.halves) (with_halves close st) s.steps (forgotten_quiet token x.halves) s.way (inr refl))
+        broke_to setup n AreNone (Forgets now token) x st y (forgotten token x.book) m closed.closed (kept_of (λ g. []) x.book.calls x.book.calls (kept_itself x.book.calls)) (λ t. omega arith) (λ g taken none. inr none)
+        (reaches_by_end setup n x m there now time Good law good AreNone (forgotten token x.book) (with_book close st) s.steps (forgotten_quiet token x.book) s.way (inr refl))
 
   -- WHATEVER FINDS NO MEMORY
   pub broken_came : (deed : Deed) (y : Node) → KeepsDeed setup m n deed x → BreaksBy deed x y → Came setup n (FindsNoMemory deed y) x y m

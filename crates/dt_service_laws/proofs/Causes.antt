@@ -19,10 +19,10 @@ use Rattle.dt_service_model.specs.declared.names.CallNumber.{CallNumber}
 use Rattle.dt_service_model.specs.declared.ports.PortKind.{PortKind}
 use Rattle.dt_service_model.specs.declared.ports.PortKind.TheVariants.{Caller, Service}
 use Rattle.dt_service_model.specs.Asked.{with_call}
-use Rattle.dt_service_model.specs.Halves.{Halves, counted_up, kind_in, most_octets}
+use Rattle.dt_service_model.specs.CallBook.{CallBook, counted_up, kind_in, longest_message}
 use Rattle.dt_service_model.specs.Hearing.{Accepts, GivesUp, Heard, NoMatter, Settles, hear, hear_all, hear_as, heard, with_fate, with_fates, with_flow}
-use Rattle.dt_service_model.specs.Names.{call_number, token_with}
-use Rattle.dt_service_model.specs.Turns.{Node, done_with, happens, most_read, sweep, with_halves}
+use Rattle.dt_service_model.specs.Names.{from_u64, token_with}
+use Rattle.dt_service_model.specs.Turns.{Node, done_with, happens, most_read, sweep, with_book}
 use Rattle.dt_service_model.specs.Whole.{answered_at, begun_of, grown, is_open, is_waiting_call, take_as, take_piece, take_reply_at, take_whole, without_token}
 use Rattle.dt_service_laws.specs.Causes.{IsOfTurn, LeavesCalls, WasGivenUp, Within, changes, hears, itself, makes, moment_told, of_read, owners, takes}
 use Rattle.dt_service_laws.specs.Services.{Deed, MakesCall}
@@ -101,11 +101,11 @@ fates_reason P given_up f count (call ∷ cs) all new =
 same_calls : (P : CallNumber → Type 0) (cs ds : List OpenCall) → ds ≡ cs → All (HasReason P) cs → All (HasReason P) ds
 same_calls P cs ds same all = subst (λ (es : List OpenCall). All (HasReason P) es) (sym same) all
 
-accepted_calls : (b : Bool) (f : Flow) (h : Halves) → (cond b (record h { unread = with_flow f h.unread }) h).calls ≡ h.calls
+accepted_calls : (b : Bool) (f : Flow) (h : CallBook) → (cond b (record h { unread = with_flow f h.unread }) h).calls ≡ h.calls
 accepted_calls true f h = refl
 accepted_calls false f h = refl
 
-hear_reasons : (P : CallNumber → Type 0) (what : Heard) (h : Halves) → All (HasReason P) h.calls → ((f : Flow) (count : ℕ) (n : CallNumber) → what ≡ GivesUp f count → Contains (take count (owners f h.calls)) n → P n) → All (HasReason P) (hear_as what h).calls
+hear_reasons : (P : CallNumber → Type 0) (what : Heard) (h : CallBook) → All (HasReason P) h.calls → ((f : Flow) (count : ℕ) (n : CallNumber) → what ≡ GivesUp f count → Contains (take count (owners f h.calls)) n → P n) → All (HasReason P) (hear_as what h).calls
 hear_reasons P (Settles f count) h all new = fates_reason P false f count h.calls all (λ n g there. absurd cc)
 hear_reasons P (GivesUp f count) h all new = fates_reason P true f count h.calls all (λ n g there. new f count n refl there)
 hear_reasons P (Accepts f) h all new = same_calls P h.calls _ (accepted_calls (is_some (kind_in f.to_port h.ports)) f h) all
@@ -115,20 +115,20 @@ module _ (deed : Deed) (x at : Node) (event : Event (Unit {0})) (may : IsOfTurn 
   abbrev Given : CallNumber → Type 0
   Given n = WasGivenUp deed x (happens (moment_told deed) event at) n
 
-  told_reasons : (first rest : List Told) → (after_event (moment_told deed) event at.endpoint).reports ≡ first ++ rest → All (HasReason Given) (hear_all first at.halves).calls → All (HasReason Given) (hear_all (first ++ rest) at.halves).calls
-  told_reasons first [] is all = same_calls Given (hear_all first at.halves).calls _ (ap (λ (rs : List Told). (hear_all rs at.halves).calls) (append-nil first)) all
+  told_reasons : (first rest : List Told) → (after_event (moment_told deed) event at.endpoint).reports ≡ first ++ rest → All (HasReason Given) (hear_all first at.book).calls → All (HasReason Given) (hear_all (first ++ rest) at.book).calls
+  told_reasons first [] is all = same_calls Given (hear_all first at.book).calls _ (ap (λ (rs : List Told). (hear_all rs at.book).calls) (append-nil first)) all
   told_reasons first (r ∷ rest) is all =
-      let h = hear_all first at.halves in
-      let one : hear_all (first ++ r ∷ []) at.halves ≡ hear h r = fold-append hear at.halves first (r ∷ []) in
+      let h = hear_all first at.book in
+      let one : hear_all (first ++ r ∷ []) at.book ≡ hear h r = fold-append hear at.book first (r ∷ []) in
       let next = hear_reasons Given (heard r) h all (λ f count n gives there. record { at = at; before = before; event = event; of_turn = may; first = first; told = r; rest = rest; reports = is; flow = f; count = count; gives_up = gives; among = there; after = itself }) in
       let split : (first ++ r ∷ []) ++ rest ≡ first ++ r ∷ rest = append_assoc first (r ∷ []) rest in
-      let more = told_reasons (first ++ r ∷ []) rest (is ∙ sym split) (same_calls Given (hear h r).calls _ (ap (λ (k : Halves). k.calls) one) next) in
-      same_calls Given _ _ (ap (λ (rs : List Told). (hear_all rs at.halves).calls) (sym split)) more
+      let more = told_reasons (first ++ r ∷ []) rest (is ∙ sym split) (same_calls Given (hear h r).calls _ (ap (λ (k : CallBook). k.calls) one) next) in
+      same_calls Given _ _ (ap (λ (rs : List Told). (hear_all rs at.book).calls) (sym split)) more
 
 -- A NODE WITHIN A TURN: a call that has given up has a reason in it
 pub record Reasons (deed : Deed) (x y : Node) : Type 0 where
   pub within : Within deed x y
-  pub reasons : All (HasReason (WasGivenUp deed x y)) y.halves.calls
+  pub reasons : All (HasReason (WasGivenUp deed x y)) y.book.calls
 
 pub reasons_hear : (deed : Deed) (x y : Node) (event : Event (Unit {0})) → IsOfTurn deed event → Reasons deed x y → Reasons deed x (happens (moment_told deed) event y)
 reasons_hear deed x y event may d =
@@ -137,27 +137,27 @@ reasons_hear deed x y event may d =
     record {
       within = within_then d.within on;
       reasons = told_reasons deed x y event may d.within [] (after_event (moment_told deed) event y.endpoint).reports refl
-          (All-weaker (HasReason (WasGivenUp deed x y)) (HasReason (WasGivenUp deed x z)) (λ call was has_given_up. given_on deed x y z call.number (was has_given_up) on) y.halves.calls d.reasons);
+          (All-weaker (HasReason (WasGivenUp deed x y)) (HasReason (WasGivenUp deed x z)) (λ call was has_given_up. given_on deed x y z call.number (was has_given_up) on) y.book.calls d.reasons);
     }
 
 -- calls that stay
-pub reasons_stay : (deed : Deed) (x y : Node) (h : Halves) → LeavesCalls y.halves h → Reasons deed x y → Reasons deed x (record y { halves = h })
+pub reasons_stay : (deed : Deed) (x y : Node) (h : CallBook) → LeavesCalls y.book h → Reasons deed x y → Reasons deed x (record y { book = h })
 reasons_stay deed x y h same d =
-    let z : Node = record y { halves = h } in
+    let z : Node = record y { book = h } in
     let on : Within deed y z = changes h same itself in
     record {
       within = within_then d.within on;
-      reasons = same_calls (WasGivenUp deed x z) y.halves.calls h.calls same.calls (All-weaker (HasReason (WasGivenUp deed x y)) (HasReason (WasGivenUp deed x z)) (λ call was has_given_up. given_on deed x y z call.number (was has_given_up) on) y.halves.calls d.reasons);
+      reasons = same_calls (WasGivenUp deed x z) y.book.calls h.calls same.calls (All-weaker (HasReason (WasGivenUp deed x y)) (HasReason (WasGivenUp deed x z)) (λ call was has_given_up. given_on deed x y z call.number (was has_given_up) on) y.book.calls d.reasons);
     }
 
 -- a call that is made has given up nothing
-pub reasons_call : (deed : Deed) {now patience : ℕ} {payload : List ℕ} (x y : Node) (f : Flow) (count deadline : ℕ) → deed ≡ MakesCall now f payload patience → Reasons deed x y → Reasons deed x (with_halves (with_call f count deadline) y)
+pub reasons_call : (deed : Deed) {now patience : ℕ} {payload : List ℕ} (x y : Node) (f : Flow) (count deadline : ℕ) → deed ≡ MakesCall now f payload patience → Reasons deed x y → Reasons deed x (with_book (with_call f count deadline) y)
 reasons_call deed x y f count deadline asked d =
-    let z = with_halves (with_call f count deadline) y in
+    let z = with_book (with_call f count deadline) y in
     let on : Within deed y z = makes f count deadline asked itself in
     record {
       within = within_then d.within on;
-      reasons = All-append (HasReason (WasGivenUp deed x z)) y.halves.calls _ (All-weaker (HasReason (WasGivenUp deed x y)) (HasReason (WasGivenUp deed x z)) (λ call was has_given_up. given_on deed x y z call.number (was has_given_up) on) y.halves.calls d.reasons)
+      reasons = All-append (HasReason (WasGivenUp deed x z)) y.book.calls _ (All-weaker (HasReason (WasGivenUp deed x y)) (HasReason (WasGivenUp deed x z)) (λ call was has_given_up. given_on deed x y z call.number (was has_given_up) on) y.book.calls d.reasons)
           (All-cons (HasReason (WasGivenUp deed x z)) _ [] (λ has_given_up. absurd cc) (All-nil (HasReason (WasGivenUp deed x z))));
     }
 
@@ -168,37 +168,37 @@ answered_reasons P zero (call ∷ cs) all = All-cons (HasReason P) _ cs (All-hea
 answered_reasons P (suc place) (call ∷ cs) all = All-cons (HasReason P) call _ (All-head (HasReason P) call cs all) (answered_reasons P place cs (All-tail (HasReason P) call cs all))
 
 -- what a piece leaves of calls: the same, or one of them has ended
-whole_calls : (P : List OpenCall → Type 0) (f : Flow) (o : Option (List ℕ)) (h : Halves) → P h.calls → ((place : ℕ) → P (answered_at place h.calls)) → P (take_whole f o h).calls
+whole_calls : (P : List OpenCall → Type 0) (f : Flow) (o : Option (List ℕ)) (h : CallBook) → P h.calls → ((place : ℕ) → P (answered_at place h.calls)) → P (take_whole f o h).calls
 whole_calls P f None h same ended = same
 whole_calls P f (Some m) h same ended = by_number (has_number m)
   where
-    by_place : (o : Option ℕ) → P (take_reply_at o (call_number (number_in m)) (carried_in m) h).calls
+    by_place : (o : Option ℕ) → P (take_reply_at o (from_u64 (number_in m)) (carried_in m) h).calls
     by_place None = same
     by_place (Some place) = ended place
 
-    by_open : (b : Bool) → let token = token_with f (call_number (number_in m)) in P (cond b (record h { tokens = without_token token h.tokens; counts = record (h.counts) { reused = counted_up h.counts.reused } }) (record h { tokens = h.tokens ++ token ∷ []; happenings = h.happenings ++ Request token (carried_in m) ∷ [] })).calls
+    by_open : (b : Bool) → let token = token_with f (from_u64 (number_in m)) in P (cond b (record h { tokens = without_token token h.tokens; counts = record (h.counts) { reused = counted_up h.counts.reused } }) (record h { tokens = h.tokens ++ token ∷ []; happenings = h.happenings ++ Request token (carried_in m) ∷ [] })).calls
     by_open true = same
     by_open false = same
 
-    by_kind : (kind : Option PortKind) → P (take_as kind f (call_number (number_in m)) (carried_in m) h).calls
+    by_kind : (kind : Option PortKind) → P (take_as kind f (from_u64 (number_in m)) (carried_in m) h).calls
     by_kind None = same
-    by_kind (Some Caller) = by_place (position (is_waiting_call (reversed f) (call_number (number_in m))) h.calls)
-    by_kind (Some Service) = by_open (is_open (token_with f (call_number (number_in m))) h)
+    by_kind (Some Caller) = by_place (position (is_waiting_call (reversed f) (from_u64 (number_in m))) h.calls)
+    by_kind (Some Service) = by_open (is_open (token_with f (from_u64 (number_in m))) h)
 
-    by_number : (b : Bool) → P (cond b (take_as (kind_in f.to_port h.ports) f (call_number (number_in m)) (carried_in m) h) (record h { counts = record (h.counts) { short = counted_up h.counts.short } })).calls
+    by_number : (b : Bool) → P (cond b (take_as (kind_in f.to_port h.ports) f (from_u64 (number_in m)) (carried_in m) h) (record h { counts = record (h.counts) { short = counted_up h.counts.short } })).calls
     by_number true = by_kind (kind_in f.to_port h.ports)
     by_number false = same
 
-pub piece_calls : (P : List OpenCall → Type 0) (f : Flow) (p : Piece) (h : Halves) → P h.calls → ((place : ℕ) → P (answered_at place h.calls)) → P (take_piece f p h).calls
-piece_calls P f p h same ended = whole_calls P f (whole_within (Some most_octets) (begun_of f h) p) (grown f (begun_of f h) p h) same ended
+pub piece_calls : (P : List OpenCall → Type 0) (f : Flow) (p : Piece) (h : CallBook) → P h.calls → ((place : ℕ) → P (answered_at place h.calls)) → P (take_piece f p h).calls
+piece_calls P f p h same ended = whole_calls P f (whole_within (Some longest_message) (begun_of f h) p) (grown f (begun_of f h) p h) same ended
 
-reasons_take : (deed : Deed) (x y : Node) (f : Flow) (p : Piece) → Reasons deed x y → Reasons deed x (with_halves (take_piece f p) y)
+reasons_take : (deed : Deed) (x y : Node) (f : Flow) (p : Piece) → Reasons deed x y → Reasons deed x (with_book (take_piece f p) y)
 reasons_take deed x y f p d =
-    let z = with_halves (take_piece f p) y in
+    let z = with_book (take_piece f p) y in
     let on : Within deed y z = takes f p itself in
     record {
       within = within_then d.within on;
-      reasons = (let all = All-weaker (HasReason (WasGivenUp deed x y)) (HasReason (WasGivenUp deed x z)) (λ call was has_given_up. given_on deed x y z call.number (was has_given_up) on) y.halves.calls d.reasons in piece_calls (λ (cs : List OpenCall). All (HasReason (WasGivenUp deed x z)) cs) f p y.halves all (λ place. answered_reasons (WasGivenUp deed x z) place y.halves.calls all));
+      reasons = (let all = All-weaker (HasReason (WasGivenUp deed x y)) (HasReason (WasGivenUp deed x z)) (λ call was has_given_up. given_on deed x y z call.number (was has_given_up) on) y.book.calls d.reasons in piece_calls (λ (cs : List OpenCall). All (HasReason (WasGivenUp deed x z)) cs) f p y.book all (λ place. answered_reasons (WasGivenUp deed x z) place y.book.calls all));
     }
 
 reasons_kept : (deed : Deed) (x : Node) → IsKept (moment_told deed) (λ (y z : Node). Reasons deed x y → Reasons deed x z)
@@ -206,24 +206,24 @@ reasons_kept deed x = record {
   itself = λ y d. d;
   through = λ u v w one two d. two (one d);
   hears = λ f y d. reasons_hear deed x y (Read f most_read) (of_read f) d;
-  done = λ f y d. reasons_stay deed x y (done_with f y.halves) (record { calls = refl; happenings = refl; closed = refl }) d;
+  done = λ f y d. reasons_stay deed x y (done_with f y.book) (record { calls = refl; happenings = refl; closed = refl }) d;
   takes = λ f p y d. reasons_take deed x y f p d;
-  swept = λ y d. reasons_stay deed x y (sweep y.endpoint.state.host y.halves) (record { calls = refl; happenings = refl; closed = refl }) d;
+  swept = λ y d. reasons_stay deed x y (sweep y.endpoint.state.host y.book) (record { calls = refl; happenings = refl; closed = refl }) d;
 }
 
 pub reasons_read : (deed : Deed) (x y : Node) → Reasons deed x y → Reasons deed x (read_through (moment_told deed) y)
 reasons_read deed x y d = reads_kept (moment_told deed) (λ (u v : Node). Reasons deed x u → Reasons deed x v) (reasons_kept deed x) y d
 
-pub reasons_begin : (deed : Deed) (x : Node) → All (λ (c : OpenCall). c.has_given_up ≡ false) x.halves.calls → Reasons deed x x
-reasons_begin deed x sure = record { within = itself; reasons = All-weaker (λ (c : OpenCall). c.has_given_up ≡ false) (HasReason (WasGivenUp deed x x)) (λ call calm has_given_up. absurd cc) x.halves.calls sure }
+pub reasons_begin : (deed : Deed) (x : Node) → All (λ (c : OpenCall). c.has_given_up ≡ false) x.book.calls → Reasons deed x x
+reasons_begin deed x sure = record { within = itself; reasons = All-weaker (λ (c : OpenCall). c.has_given_up ≡ false) (HasReason (WasGivenUp deed x x)) (λ call calm has_given_up. absurd cc) x.book.calls sure }
 
 -- WITHIN A TURN nothing is told of unsure calls, and a call that has given up stays so
-pub within_tells : {deed : Deed} {x y : Node} → Within deed x y → Tells x.halves y.halves
-within_tells (itself {x}) = tells_same x.halves x.halves refl refl
-within_tells (makes {x} {y} f count deadline asked more) = let h = with_call f count deadline x.halves in tells_through x.halves h y.halves (tells_same x.halves h refl refl) (within_tells more)
-within_tells {deed} (hears {x} {y} event may more) = tells_through x.halves (happens (moment_told deed) event x).halves y.halves (happens_tells (moment_told deed) event x) (within_tells more)
-within_tells (takes {x} {y} f piece more) = tells_through x.halves (take_piece f piece x.halves) y.halves (piece_tells f piece x.halves) (within_tells more)
-within_tells (changes {x} {y} h leaves more) = tells_through x.halves h y.halves (tells_same x.halves h leaves.closed leaves.happenings) (within_tells more)
+pub within_tells : {deed : Deed} {x y : Node} → Within deed x y → Tells x.book y.book
+within_tells (itself {x}) = tells_same x.book x.book refl refl
+within_tells (makes {x} {y} f count deadline asked more) = let h = with_call f count deadline x.book in tells_through x.book h y.book (tells_same x.book h refl refl) (within_tells more)
+within_tells {deed} (hears {x} {y} event may more) = tells_through x.book (happens (moment_told deed) event x).book y.book (happens_tells (moment_told deed) event x) (within_tells more)
+within_tells (takes {x} {y} f piece more) = tells_through x.book (take_piece f piece x.book) y.book (piece_tells f piece x.book) (within_tells more)
+within_tells (changes {x} {y} h leaves more) = tells_through x.book h y.book (tells_same x.book h leaves.closed leaves.happenings) (within_tells more)
 
 pub record HasGivenUp (n : CallNumber) (cs : List OpenCall) : Type 0 where
   pub call : OpenCall
@@ -256,13 +256,13 @@ fates_stay n given_up f count (call ∷ cs) h = by_flow (same_flow call.flow f) 
     by_flow false (inl first) here other = given_up_first n call _ first.0 first.1
     by_flow false (inr more) here other = given_up_more n call _ (other more)
 
-hear_stay : (n : CallNumber) (what : Heard) (h : Halves) → HasGivenUp n h.calls → HasGivenUp n (hear_as what h).calls
+hear_stay : (n : CallNumber) (what : Heard) (h : CallBook) → HasGivenUp n h.calls → HasGivenUp n (hear_as what h).calls
 hear_stay n (Settles f count) h d = fates_stay n false f count h.calls d
 hear_stay n (GivesUp f count) h d = fates_stay n true f count h.calls d
 hear_stay n (Accepts f) h d = subst (HasGivenUp n) (sym (accepted_calls (is_some (kind_in f.to_port h.ports)) f h)) d
 hear_stay n NoMatter h d = d
 
-told_stay : (n : CallNumber) (told : List Told) (h : Halves) → HasGivenUp n h.calls → HasGivenUp n (fold hear h told).calls
+told_stay : (n : CallNumber) (told : List Told) (h : CallBook) → HasGivenUp n h.calls → HasGivenUp n (fold hear h told).calls
 told_stay n [] h d = d
 told_stay n (r ∷ told) h d = told_stay n told (hear h r) (hear_stay n (heard r) h d)
 
@@ -271,11 +271,11 @@ answered_stay n place [] h = h
 answered_stay n zero (call ∷ cs) h = elim (given_up_parts n call cs h) [ inl here ↦ given_up_first n _ cs here.0 here.1 | inr more ↦ given_up_more n _ cs more ]
 answered_stay n (suc place) (call ∷ cs) h = elim (given_up_parts n call cs h) [ inl here ↦ given_up_first n call _ here.0 here.1 | inr more ↦ given_up_more n call _ (answered_stay n place cs more) ]
 
-within_stay : (n : CallNumber) {deed : Deed} {x y : Node} → Within deed x y → HasGivenUp n x.halves.calls → HasGivenUp n y.halves.calls
+within_stay : (n : CallNumber) {deed : Deed} {x y : Node} → Within deed x y → HasGivenUp n x.book.calls → HasGivenUp n y.book.calls
 within_stay n itself d = d
-within_stay n (makes {x} f count deadline asked more) d = within_stay n more (record { call = d.call; there = Contains-append_left x.halves.calls _ d.call d.there; number = d.number; has_given_up = d.has_given_up })
-within_stay n {deed} (hears {x} event may more) d = within_stay n more (told_stay n (after_event (moment_told deed) event x.endpoint).reports x.halves d)
-within_stay n (takes {x} f piece more) d = within_stay n more (piece_calls (HasGivenUp n) f piece x.halves d (λ place. answered_stay n place x.halves.calls d))
+within_stay n (makes {x} f count deadline asked more) d = within_stay n more (record { call = d.call; there = Contains-append_left x.book.calls _ d.call d.there; number = d.number; has_given_up = d.has_given_up })
+within_stay n {deed} (hears {x} event may more) d = within_stay n more (told_stay n (after_event (moment_told deed) event x.endpoint).reports x.book d)
+within_stay n (takes {x} f piece more) d = within_stay n more (piece_calls (HasGivenUp n) f piece x.book d (λ place. answered_stay n place x.book.calls d))
 within_stay n (changes {x} h leaves more) d = within_stay n more (subst (HasGivenUp n) (sym leaves.calls) d)
 
 -- A CALL OF WHICH AN OCTET IS GIVEN UP has given up
@@ -317,10 +317,10 @@ taken_given_up n f count (call ∷ cs) there = by_flow (same_flow call.flow f) t
         ]
     by_flow false there here other = given_up_more n call _ (other there)
 
-pub given_stays : (deed : Deed) (x y : Node) (n : CallNumber) → WasGivenUp deed x y n → HasGivenUp n y.halves.calls
+pub given_stays : (deed : Deed) (x y : Node) (n : CallNumber) → WasGivenUp deed x y n → HasGivenUp n y.book.calls
 given_stays deed x y n g =
-    let h = hear_all g.first g.at.halves in
+    let h = hear_all g.first g.at.book in
     let now : HasGivenUp n (hear h g.told).calls = subst (λ (what : Heard). HasGivenUp n (hear_as what h).calls) (sym g.gives_up) (taken_given_up n g.flow g.count h.calls g.among) in
-    let split : fold hear g.at.halves (g.first ++ g.told ∷ g.rest) ≡ fold hear (hear h g.told) g.rest = fold-append hear g.at.halves g.first (g.told ∷ g.rest) in
-    let behind : HasGivenUp n (fold hear g.at.halves (g.first ++ g.told ∷ g.rest)).calls = subst (λ (k : Halves). HasGivenUp n k.calls) (sym split) (told_stay n g.rest (hear h g.told) now) in
-    within_stay n g.after (subst (λ (rs : List Told). HasGivenUp n (fold hear g.at.halves rs).calls) (sym g.reports) behind)
+    let split : fold hear g.at.book (g.first ++ g.told ∷ g.rest) ≡ fold hear (hear h g.told) g.rest = fold-append hear g.at.book g.first (g.told ∷ g.rest) in
+    let behind : HasGivenUp n (fold hear g.at.book (g.first ++ g.told ∷ g.rest)).calls = subst (λ (k : CallBook). HasGivenUp n k.calls) (sym split) (told_stay n g.rest (hear h g.told) now) in
+    within_stay n g.after (subst (λ (rs : List Told). HasGivenUp n (fold hear g.at.book rs).calls) (sym g.reports) behind)

@@ -15,9 +15,9 @@ use Rattle.dt_network.specs.Network.{Flight, Network, Setup}
 use Rattle.dt_network.specs.Octets.{all_read, items_read, read_if}
 use Rattle.dt_network.specs.Steps.{AreSteps, Call, CallRead, Calls, Step, network_by}
 use Rattle.dt_service_model.specs.declared.happenings.Happening.{Happening}
-use Rattle.dt_service_model.specs.Halves.{Halves, most_octets}
+use Rattle.dt_service_model.specs.CallBook.{CallBook, longest_message}
 use Rattle.dt_service_model.specs.Hearing.{hear}
-use Rattle.dt_service_model.specs.Turns.{Node, comes_in, hears, most_read, with_halves}
+use Rattle.dt_service_model.specs.Turns.{Node, comes_in, hears, most_read, with_book}
 use Rattle.dt_service_model.specs.Whole.{begun_of, grown, take_piece}
 use Rattle.dt_service_laws.specs.Histories.{Message, each_of, request_in}
 use Rattle.dt_service_laws.specs.Orders.{AreSomeOf, none}
@@ -41,13 +41,13 @@ some_of_none none = refl
 abbrev TellsNone : Flow → List Happening → Type 0
 TellsNone g told = each_of (request_in g) told ≡ []
 
-pub record IsElsewhere (g : Flow) (steps : List Step) (h k : Halves) : Type 0 where
+pub record IsElsewhere (g : Flow) (steps : List Step) (h k : CallBook) : Type 0 where
   pub none : all_read g steps ≡ []
   pub told : List Happening
   pub happenings : k.happenings ≡ h.happenings ++ told
   pub requests : each_of (request_in g) told ≡ []
 
-none_then : (g : Flow) (steps more : List Step) (h k l : Halves) (told : List Happening) → all_read g more ≡ all_read g steps → k.happenings ≡ h.happenings ++ told → TellsNone g told → IsElsewhere g steps k l → IsElsewhere g more h l
+none_then : (g : Flow) (steps more : List Step) (h k l : CallBook) (told : List Happening) → all_read g more ≡ all_read g steps → k.happenings ≡ h.happenings ++ told → TellsNone g told → IsElsewhere g steps k l → IsElsewhere g more h l
 none_then g steps more h k l told same is nothing e = record {
   none = same ∙ e.none;
   told = told ++ e.told;
@@ -93,28 +93,28 @@ module _ (setup : Setup) (Good : Network → Type 0) (law : IsLawful setup Good)
       first_of_both true b h = refl
       first_of_both false b h = absurd cc
 
-  piece_none : (k : Flow) (p : Piece) (h : Halves) → same_flow k g ≡ false → (told : List Happening) × ((take_piece k p h).happenings ≡ h.happenings ++ told) × TellsNone g told
+  piece_none : (k : Flow) (p : Piece) (h : CallBook) → same_flow k g ≡ false → (told : List Happening) × ((take_piece k p h).happenings ≡ h.happenings ++ told) × TellsNone g told
   piece_none k p h apart =
-      let whole = whole_within (Some most_octets) (begun_of k h) p in
+      let whole = whole_within (Some longest_message) (begun_of k h) p in
       let w = whole_tells k g whole (grown k (begun_of k h) p h) in
       (w.told, w.happenings, some_of_none (subst (λ (t : Bool). AreSomeOf (each_of (request_in g) w.told) (cond t (map said (listed whole)) [])) apart w.requests))
 
-  pub elsewhere : (x y : Node) (steps : List Step) → Moves setup n base x steps y → (m : Network) → IsLater base m → IsAt n m x.endpoint → Good m → x.endpoint.spent ≡ false → IsElsewhere g steps x.halves y.halves
-  elsewhere x y steps (rests {x = z}) m later there good unspent = record { none = refl; told = []; happenings = sym (append-nil z.halves.happenings); requests = refl }
+  pub elsewhere : (x y : Node) (steps : List Step) → Moves setup n base x steps y → (m : Network) → IsLater base m → IsAt n m x.endpoint → Good m → x.endpoint.spent ≡ false → IsElsewhere g steps x.book y.book
+  elsewhere x y steps (rests {x = z}) m later there good unspent = record { none = refl; told = []; happenings = sym (append-nil z.book.happenings); requests = refl }
   elsewhere x y steps (changes {x = z} {y = u} {steps = ss} h quiet more) m later there good unspent =
-      none_then g ss ss z.halves h u.halves quiet.told refl quiet.happenings (unsure_requests g quiet.told quiet.unsure) (elsewhere (record z { halves = h }) u ss more m later there good unspent)
+      none_then g ss ss z.book h u.book quiet.told refl quiet.happenings (unsure_requests g quiet.told quiet.unsure) (elsewhere (record z { book = h }) u ss more m later there good unspent)
   elsewhere x y steps (calls {x = z} {y = u} {steps = ss} call f may nothing taken more) m later there good unspent =
       let b = behind setup Good law n base m z call f may later there good in
-      let quiet = all_heard_quiet f.reports z.halves in
-      none_then g ss (Calls n call f ∷ (pulls setup n f f.reports ++ ss)) z.halves (fold hear z.halves f.reports) u.halves quiet.told (ap (λ (is : List Item). is ++ all_read g (pulls setup n f f.reports ++ ss)) (nothing g) ∙ behind_read setup n g f f.reports ss) quiet.happenings (unsure_requests g quiet.told quiet.unsure)
+      let quiet = all_heard_quiet f.reports z.book in
+      none_then g ss (Calls n call f ∷ (pulls setup n f f.reports ++ ss)) z.book (fold hear z.book f.reports) u.book quiet.told (ap (λ (is : List Item). is ++ all_read g (pulls setup n f f.reports ++ ss)) (nothing g) ∙ behind_read setup n g f f.reports ss) quiet.happenings (unsure_requests g quiet.told quiet.unsure)
       (elsewhere (hears (record z { endpoint = f })) u ss more b.net b.later b.there b.good may.unspent)
   elsewhere x y steps (reads {x = z} {y = u} {steps = ss} now k p o os f comes some may more) m later there good unspent =
       let b = behind setup Good law n base m z (CallRead now k most_read p.octets (answer.Read (length p.octets) p.run p.begin p.end)) f may later there good in
       let apart = not_here z k m good there unspent comes in
-      let heard = fold hear z.halves f.reports in
-      let quiet = all_heard_quiet f.reports z.halves in
+      let heard = fold hear z.book f.reports in
+      let quiet = all_heard_quiet f.reports z.book in
       let piece = piece_none k p heard apart in
-      let rest = elsewhere (with_halves (take_piece k p) (hears (record z { endpoint = f }))) u ss more b.net b.later b.there b.good may.unspent in
+      let rest = elsewhere (with_book (take_piece k p) (hears (record z { endpoint = f }))) u ss more b.net b.later b.there b.good may.unspent in
       let same : read_if (same_flow k g) (items_read (answer.Read (length p.octets) p.run p.begin p.end) p.octets) ++ all_read g (pulls setup n f f.reports ++ ss) ≡ all_read g ss =
       ap (λ (t : Bool). read_if t (items_read (answer.Read (length p.octets) p.run p.begin p.end) p.octets) ++ all_read g (pulls setup n f f.reports ++ ss)) apart ∙ behind_read setup n g f f.reports ss in
-      none_then g ss _ z.halves heard u.halves quiet.told same quiet.happenings (unsure_requests g quiet.told quiet.unsure) (none_then g ss ss heard (take_piece k p heard) u.halves piece.0 refl piece.1 piece.2 rest)
+      none_then g ss _ z.book heard u.book quiet.told same quiet.happenings (unsure_requests g quiet.told quiet.unsure) (none_then g ss ss heard (take_piece k p heard) u.book piece.0 refl piece.1 piece.2 rest)

@@ -22,8 +22,8 @@ use Rattle.dt_network.specs.Network.{Network, Setup, clock_of}
 use Rattle.dt_network.specs.Octets.{read_if as items_if}
 use Rattle.dt_network.specs.Steps.{CallRead, Step}
 use Rattle.dt_service_model.specs.Ends.{judge}
-use Rattle.dt_service_model.specs.Halves.{may_read}
-use Rattle.dt_service_model.specs.Turns.{Node, comes_in, done_with, happens, most_read, most_reads, piece_at, piece_with, read_flow, read_times, reads as reads_all, sweep, take_read, turn_end, with_halves}
+use Rattle.dt_service_model.specs.CallBook.{may_read}
+use Rattle.dt_service_model.specs.Turns.{Node, comes_in, done_with, happens, most_read, most_reads, piece_at, piece_with, read_flow, read_times, reads as reads_all, sweep, take_read, turn_end, with_book}
 use Rattle.dt_service_model.specs.Whole.{take_piece}
 use Rattle.dt_service_laws.proofs.Moves.{IsLater, MayCall, Moves, calls, changes, reads, rests}
 use Rattle.dt_service_laws.proofs.Quiet.{done_quiet, judge_quiet, sweep_quiet}
@@ -57,7 +57,7 @@ module _ (setup : Setup) (n : ℕ) (base : Network) where
   moves_then : (x y z : Node) (steps : List Step) → Moves setup n base x steps y → Goes y z → Goes x z
   moves_then x y z steps rests k = k
   moves_then x y z steps (changes {x = u} {y = v} {steps = ss} h quiet more) k =
-      let r = moves_then (record u { halves = h }) v z ss more k in record { steps = r.steps; moves = changes h quiet r.moves; unspent = r.unspent }
+      let r = moves_then (record u { book = h }) v z ss more k in record { steps = r.steps; moves = changes h quiet r.moves; unspent = r.unspent }
   moves_then x y z steps (calls {x = u} {y = v} {steps = ss} call f may none taken more) k =
       let r = moves_then _ v z ss more k in record { steps = _; moves = calls call f may none taken r.moves; unspent = r.unspent }
   moves_then x y z steps (reads {x = u} {y = v} {steps = ss} now g p o os f comes some may more) k =
@@ -91,12 +91,12 @@ module _ (setup : Setup) (n : ℕ) (base : Network) where
           record {
             steps = _;
             moves = calls (CallRead now f most_read [] answer.Nothing) (after_event now (Read f most_read) x.endpoint) (may_read_with x [] answer.Nothing [] unspent comes is (refl, refl, refl)) (λ g. none_read (same_flow f g)) (λ g taken h. h)
-                (changes (done_with f y.halves) (done_quiet f y.halves) rests);
+                (changes (done_with f y.book) (done_quiet f y.book) rests);
             unspent = refl;
           }
       by_items again more x unspent comes (i ∷ items) is =
           let p : Piece = record { run = i.run; begin = i.begin; end = (last_item i items).end; octets = octets_of (i ∷ items) } in
-          let r = more (with_halves (take_piece f p) (happens now (Read f most_read) x)) refl in
+          let r = more (with_book (take_piece f p) (happens now (Read f most_read) x)) refl in
           record {
             steps = _;
             moves = reads now f p i.octet (octets_of items) (after_event now (Read f most_read) x.endpoint) comes refl
@@ -105,14 +105,14 @@ module _ (setup : Setup) (n : ℕ) (base : Network) where
             unspent = r.unspent;
           }
 
-      by_test : (again : Node → Node) → ((y : Node) → y.endpoint.spent ≡ false → Goes y (again y)) → (x : Node) → x.endpoint.spent ≡ false → (b : Bool) → (comes_in x f && may_read f x.halves) ≡ b
+      by_test : (again : Node → Node) → ((y : Node) → y.endpoint.spent ≡ false → Goes y (again y)) → (x : Node) → x.endpoint.spent ≡ false → (b : Bool) → (comes_in x f && may_read f x.book) ≡ b
           → Goes x (cond b (take_read again f (piece_at now f x.endpoint) (happens now (Read f most_read) x)) x)
-      by_test again more x unspent true is = by_items again more x unspent (and_parts (comes_in x f) (may_read f x.halves) is).0 (read_answer now f most_read x.endpoint) refl
+      by_test again more x unspent true is = by_items again more x unspent (and_parts (comes_in x f) (may_read f x.book) is).0 (read_answer now f most_read x.endpoint) refl
       by_test again more x unspent false is = goes_nowhere x unspent
 
       pub times : (most : ℕ) (x : Node) → x.endpoint.spent ≡ false → Goes x (read_times most now f x)
       times zero x unspent = goes_nowhere x unspent
-      times (suc most) x unspent = by_test (read_times most now f) (λ y on. times most y on) x unspent (comes_in x f && may_read f x.halves) refl
+      times (suc most) x unspent = by_test (read_times most now f) (λ y on. times most y on) x unspent (comes_in x f && may_read f x.book) refl
 
     pub flows : (fs : List Flow) → All IsFlow fs → (x : Node) → x.endpoint.spent ≡ false → Goes x (fold (read_flow now) x fs)
     flows [] all x unspent = goes_nowhere x unspent
@@ -121,9 +121,9 @@ module _ (setup : Setup) (n : ℕ) (base : Network) where
         goes_then x (read_flow now x f) (fold (read_flow now) (read_flow now x f) fs) first (flows fs (All-tail IsFlow f fs all) (read_flow now x f) first.unspent)
 
     -- THE END OF A TURN
-    pub end_goes : (x : Node) → All IsFlow x.halves.unread → x.endpoint.spent ≡ false → Goes x (turn_end now x)
+    pub end_goes : (x : Node) → All IsFlow x.book.unread → x.endpoint.spent ≡ false → Goes x (turn_end now x)
     end_goes x all unspent =
         let read = reads_all now x in
-        let r = flows x.halves.unread all x unspent in
-        let swept = sweep read.endpoint.state.host read.halves in
-        goes_then x read (turn_end now x) r (record { steps = []; moves = changes swept (sweep_quiet read.endpoint.state.host read.halves) (changes (judge (moment_of now read.endpoint) swept) (judge_quiet (moment_of now read.endpoint) swept) rests); unspent = r.unspent })
+        let r = flows x.book.unread all x unspent in
+        let swept = sweep read.endpoint.state.host read.book in
+        goes_then x read (turn_end now x) r (record { steps = []; moves = changes swept (sweep_quiet read.endpoint.state.host read.book) (changes (judge (moment_of now read.endpoint) swept) (judge_quiet (moment_of now read.endpoint) swept) rests); unspent = r.unspent })

@@ -19,9 +19,9 @@ written_each P n s y all one k e there =
           let first : look ◌==◌ k (write ◌==◌ n y.endpoint s.network.endpoints) ≡ Some y.endpoint = subst (λ (j : ℕ). look ◌==◌ j (write ◌==◌ n y.endpoint s.network.endpoints) ≡ Some y.endpoint) (nat_is n k is) (written_there n y.endpoint s.network.endpoints) in
           let two : Some y.endpoint ≡ Some e = sym first ∙ there in
           let same : y.endpoint ≡ e = cc in
-          let here : P (record { endpoint = y.endpoint; halves = cond (n == k) y.halves (s.halves k) }) = subst (λ (b : Bool). P (record { endpoint = y.endpoint; halves = cond b y.halves (s.halves k) })) (sym is) one in
-          subst (λ (z : EndpointValue). P (record { endpoint = z; halves = cond (n == k) y.halves (s.halves k) })) same here
+          let here : P (record { endpoint = y.endpoint; book = cond (n == k) y.book (s.book k) }) = subst (λ (b : Bool). P (record { endpoint = y.endpoint; book = cond b y.book (s.book k) })) (sym is) one in
+          subst (λ (z : EndpointValue). P (record { endpoint = z; book = cond (n == k) y.book (s.book k) })) same here
       | inr other ↦
           let was : P (node_with k s e) = all k e (sym (look_write_other ℕ EndpointValue ◌==◌ nat_self nat_is k n y.endpoint s.network.endpoints other) ∙ there) in
-          subst (λ (b : Bool). P (record { endpoint = e; halves = cond b y.halves (s.halves k) })) (sym other) was
+          subst (λ (b : Bool). P (record { endpoint = e; book = cond b y.book (s.book k) })) (sym other) was
     ]

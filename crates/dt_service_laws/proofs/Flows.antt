@@ -34,7 +34,7 @@ use Rattle.dt_calls_laws.specs.Silence.{IsSilentTold}
 use Rattle.dt_endpoint.specs.Acts.{acts_of, plain, reports_in}
 use Rattle.dt_endpoint.specs.Endpoints.{after_event, script_of}
 use Rattle.dt_endpoint.specs.Hearing.{kept}
-use Rattle.dt_service_model.specs.Halves.{Halves, kind_in}
+use Rattle.dt_service_model.specs.CallBook.{CallBook, kind_in}
 use Rattle.dt_service_model.specs.Hearing.{Accepts, GivesUp, Heard, NoMatter, Settles, hear, hear_as, heard, with_flow}
 use Rattle.dt_service_model.specs.Turns.{Node, happens}
 
@@ -54,24 +54,24 @@ kept_tells other h = h
 
 -- A NODE is to read flows, and flows alone come with the reports that it hasn't heard
 pub record IsReading (x : Node) : Type 0 where
-  pub unread : All IsFlow x.halves.unread
+  pub unread : All IsFlow x.book.unread
   pub waiting : All TellsFlow x.endpoint.reports
 
 with_flow_flows : (b : Bool) (f : Flow) (flows : List Flow) → IsFlow f → All IsFlow flows → All IsFlow (cond b flows (flows ++ f ∷ []))
 with_flow_flows true f flows flow all = all
 with_flow_flows false f flows flow all = All-append IsFlow flows (f ∷ []) all (All-cons IsFlow f [] flow (All-nil IsFlow))
 
-accepts_flows : (b : Bool) (f : Flow) (h : Halves) → IsFlow f → All IsFlow h.unread → All IsFlow (cond b (record h { unread = with_flow f h.unread }) h).unread
+accepts_flows : (b : Bool) (f : Flow) (h : CallBook) → IsFlow f → All IsFlow h.unread → All IsFlow (cond b (record h { unread = with_flow f h.unread }) h).unread
 accepts_flows true f h flow all = with_flow_flows (list_any (λ (g : Flow). same_flow g f) h.unread) f h.unread flow all
 accepts_flows false f h flow all = all
 
-heard_flows : (what : Heard) (h : Halves) → AcceptsFlow what → All IsFlow h.unread → All IsFlow (hear_as what h).unread
+heard_flows : (what : Heard) (h : CallBook) → AcceptsFlow what → All IsFlow h.unread → All IsFlow (hear_as what h).unread
 heard_flows (Settles f count) h flow all = all
 heard_flows (GivesUp f count) h flow all = all
 heard_flows (Accepts f) h flow all = accepts_flows (is_some (kind_in f.to_port h.ports)) f h flow all
 heard_flows NoMatter h flow all = all
 
-pub all_heard_flows : (told : List Told) (h : Halves) → All TellsFlow told → All IsFlow h.unread → All IsFlow (fold hear h told).unread
+pub all_heard_flows : (told : List Told) (h : CallBook) → All TellsFlow told → All IsFlow h.unread → All IsFlow (fold hear h told).unread
 all_heard_flows [] h tells all = all
 all_heard_flows (r ∷ told) h tells all = all_heard_flows told (hear h r) (All-tail TellsFlow r told tells) (heard_flows (heard r) h (All-head TellsFlow r told tells) all)
 
@@ -91,7 +91,7 @@ some_flows (suc count) (Hand link parcel s) h = some_flows count s h
 
 pub happens_flows : (now : ℕ) (event : Event (Unit {0})) (x : Node) → AllTold TellsFlow (script_of now event x.endpoint) → IsReading x → IsReading (happens now event x)
 happens_flows now event x tells h = record {
-  unread = all_heard_flows (after_event now event x.endpoint).reports x.halves (All-append TellsFlow x.endpoint.reports (reports_in (acts_of (script_of now event x.endpoint))) h.waiting (script_flows (script_of now event x.endpoint) tells)) h.unread;
+  unread = all_heard_flows (after_event now event x.endpoint).reports x.book (All-append TellsFlow x.endpoint.reports (reports_in (acts_of (script_of now event x.endpoint))) h.waiting (script_flows (script_of now event x.endpoint) tells)) h.unread;
   waiting = All-nil TellsFlow;
 }
 

@@ -9,9 +9,9 @@ use Rattle.dt_endpoint.specs.Endpoints.{moment_of}
 use Rattle.dt_service_model.specs.declared.names.Token.{Token}
 use Rattle.dt_service_model.specs.Asked.{forgotten, forgotten_unless, message_event, next_number, with_call_unless}
 use Rattle.dt_service_model.specs.Ends.{close}
-use Rattle.dt_service_model.specs.Names.{number_of}
+use Rattle.dt_service_model.specs.Names.{to_u64}
 use Rattle.dt_service_model.specs.Stopping.{call_kept, message_of_call, token_dropped}
-use Rattle.dt_service_model.specs.Turns.{Node, with_halves}
+use Rattle.dt_service_model.specs.Turns.{Node, with_book}
 use Rattle.dt_service_model.proofs.Halting.{IsKeptToStop, end_stopped, turn_stopped}
 use Rattle.dt_service_laws.specs.Causes.{IsEventOf, moment_told}
 use Rattle.dt_service_laws.specs.Premises.{BreaksBy}
@@ -20,27 +20,27 @@ use Rattle.dt_service_laws.specs.Services.{Arrives, Closes, Deed, FindsNoMemory,
 -- each move of what is asked keeps it
 pub record IsKeptByDeeds (R : Node → Node → Type 0) (May : (now : ℕ) → Event (Unit {0}) → Node → Type 0) : Type 0 where
   pub turns : IsKeptToStop R May
-  pub calls : (o : Option Refusal) (f : Flow) (count deadline : ℕ) (x : Node) → R x (with_halves (with_call_unless o f count deadline) x)
-  pub forgets : (o : Option Refusal) (token : Token) (x : Node) → R x (with_halves (forgotten_unless o token) x)
+  pub calls : (o : Option Refusal) (f : Flow) (count deadline : ℕ) (x : Node) → R x (with_book (with_call_unless o f count deadline) x)
+  pub forgets : (o : Option Refusal) (token : Token) (x : Node) → R x (with_book (forgotten_unless o token) x)
 
 module _ (R : Node → Node → Type 0) (May : (now : ℕ) → Event (Unit {0}) → Node → Type 0) (walk : IsKeptByDeeds R May) where
   -- WHERE A TURN STOPPED the node closed
   pub record Halts (x y : Node) : Type 0 where
     pub stopped : Node
     pub part : R x stopped
-    pub closed : y ≡ with_halves close stopped
+    pub closed : y ≡ with_book close stopped
 
   pub halts : (deed : Deed) (x y : Node) → ((event : Event (Unit {0})) → IsEventOf deed event → May (moment_told deed) event x) → BreaksBy deed x y → Halts x y
   halts (MakesCall now f payload patience) x y may b =
-      let message = message_of_call payload x.halves in
+      let message = message_of_call payload x.book in
       record {
         stopped = b.stopped;
-        part = turn_stopped R May walk.turns now (message_event f message) (call_kept now f message patience x) x b.stopped (may (message_event f message) (next_number x.halves, refl))
+        part = turn_stopped R May walk.turns now (message_event f message) (call_kept now f message patience x) x b.stopped (may (message_event f message) (next_number x.book, refl))
             (λ z. walk.calls (send_answer now f message true true x.endpoint) f (length message) (moment_of now x.endpoint + patience) z) b.stops.turn;
         closed = b.closed;
       }
   halts (GivesReply now token payload) x y may b =
-      let message = message_of (number_of token.number) payload in
+      let message = message_of (to_u64 token.number) payload in
       let event = message_event (reversed token.flow) message in
       record {
         stopped = b.stopped;
@@ -48,7 +48,7 @@ module _ (R : Node → Node → Type 0) (May : (now : ℕ) → Event (Unit {0}) 
         closed = b.closed;
       }
   halts (Forgets now token) x y may b =
-      let z = with_halves (forgotten token) x in
+      let z = with_book (forgotten token) x in
       record { stopped = b.stopped; part = (walk.turns.kept now).through x z b.stopped (walk.forgets None token x) (end_stopped R May walk.turns now z b.stopped b.stops.turn); closed = b.closed }
   halts (Ticks now) x y may b = record { stopped = b.stopped; part = turn_stopped R May walk.turns now Tick (λ h. h) x b.stopped (may Tick refl) (λ z. (walk.turns.kept now).itself z) b.stops.turn; closed = b.closed }
   halts (Arrives now link datagram waited) x y may b =

@@ -33,9 +33,9 @@ use Rattle.dt_service_model.specs.declared.names.Token.{Token}
 use Rattle.dt_service_model.specs.declared.ports.PortKind.{PortKind}
 use Rattle.dt_service_model.specs.Asked.{call_refusals, forget_refusals, forgotten, forgotten_unless, is_closed, is_life_in_use, made_by, message_event, next_number, or_counted, replied_by, reply_refusals, unless, with_call_unless, with_port}
 use Rattle.dt_service_model.specs.Ends.{cause_of, close, closing_of, is_kept, judge, judged_as, judged_call, next_call, next_in, told_by, unsure_by, unsure_of}
-use Rattle.dt_service_model.specs.Halves.{Halves, kind_in}
-use Rattle.dt_service_model.specs.Names.{number_of}
-use Rattle.dt_service_model.specs.Turns.{Node, happens, turn, turn_end, with_halves}
+use Rattle.dt_service_model.specs.CallBook.{CallBook, kind_in}
+use Rattle.dt_service_model.specs.Names.{to_u64}
+use Rattle.dt_service_model.specs.Turns.{Node, happens, turn, turn_end, with_book}
 use Rattle.dt_service_laws.specs.Causes.{EndsAt, EndsInTurn, HasCause, IsEventOf, IsPatient, TellCauses, TellsAt, WasGivenUp, moment_told, of_deed}
 use Rattle.dt_service_laws.specs.Fates.{told_at, told_in}
 use Rattle.dt_service_laws.specs.Histories.{Message, answer_in, answers_at, at_node, at_the, each_of, in_turn}
@@ -60,10 +60,10 @@ pub record IsCalm (latest : ℕ) (call : OpenCall) : Type 0 where
 
 -- A NODE whose calls have no cause. At one that is closed each has its end
 abbrev pub AreSure : Node → Type 0
-AreSure x = x.halves.closed ≡ false → All (IsCalm x.endpoint.latest) x.halves.calls
+AreSure x = x.book.closed ≡ false → All (IsCalm x.endpoint.latest) x.book.calls
 
-none_given_up : (x : Node) → x.halves.closed ≡ false → AreSure x → All (λ (c : OpenCall). c.has_given_up ≡ false) x.halves.calls
-none_given_up x open_x sure = All-weaker (IsCalm x.endpoint.latest) (λ (c : OpenCall). c.has_given_up ≡ false) (λ c s. s.sure) x.halves.calls (sure open_x)
+none_given_up : (x : Node) → x.book.closed ≡ false → AreSure x → All (λ (c : OpenCall). c.has_given_up ≡ false) x.book.calls
+none_given_up x open_x sure = All-weaker (IsCalm x.endpoint.latest) (λ (c : OpenCall). c.has_given_up ≡ false) (λ c s. s.sure) x.book.calls (sure open_x)
 
 -- CALLS ARE JUDGED
 not_unsure : (deed : Deed) (x y : Node) (happening : Happening) → NotUnsure happening → HasCause deed x y happening
@@ -82,7 +82,7 @@ module _ (deed : Deed) (x y : Node) (end : EndsAt deed x y) where
   abbrev moment : ℕ
   moment = moment_of (moment_told deed) end.judges.endpoint
 
-  judged_cause : (call : OpenCall) (rest : List Happening) → Contains end.judges.halves.calls call → HasReason (WasGivenUp deed x end.judges) call → All (HasCause deed x y) rest → (a b : Bool) → (call.waits && call.has_given_up) ≡ a → (call.waits && nat_le call.deadline moment) ≡ b
+  judged_cause : (call : OpenCall) (rest : List Happening) → Contains end.judges.book.calls call → HasReason (WasGivenUp deed x end.judges) call → All (HasCause deed x y) rest → (a b : Bool) → (call.waits && call.has_given_up) ≡ a → (call.waits && nat_le call.deadline moment) ≡ b
       → All (HasCause deed x y) (cons_option (unsure_by call (cond a (Some cause.GivenUp) (cond b (Some cause.Patience) None))) rest)
   judged_cause call rest there reason more true b is over = All-cons (HasCause deed x y) (Unsure call.number cause.GivenUp) rest (end, reason (and_parts call.waits call.has_given_up is).1) more
   judged_cause call rest there reason more false true is over =
@@ -90,11 +90,11 @@ module _ (deed : Deed) (x y : Node) (end : EndsAt deed x y) where
       All-cons (HasCause deed x y) (Unsure call.number cause.Patience) rest (end, record { call = call; there = there; waits = p.0; number_is = refl; deadline = le_by _ _ p.1 }) more
   judged_cause call rest there reason more false false is over = more
 
-  judged_causes : (cs : List OpenCall) → All (Contains end.judges.halves.calls) cs → All (HasReason (WasGivenUp deed x end.judges)) cs → All (HasCause deed x y) (filter_map (unsure_of moment) cs)
+  judged_causes : (cs : List OpenCall) → All (Contains end.judges.book.calls) cs → All (HasReason (WasGivenUp deed x end.judges)) cs → All (HasCause deed x y) (filter_map (unsure_of moment) cs)
   judged_causes [] there reasons = All-nil (HasCause deed x y)
   judged_causes (call ∷ cs) there reasons =
-      judged_cause call (filter_map (unsure_of moment) cs) (All-head (Contains end.judges.halves.calls) call cs there) (All-head (HasReason (WasGivenUp deed x end.judges)) call cs reasons)
-      (judged_causes cs (All-tail (Contains end.judges.halves.calls) call cs there) (All-tail (HasReason (WasGivenUp deed x end.judges)) call cs reasons))
+      judged_cause call (filter_map (unsure_of moment) cs) (All-head (Contains end.judges.book.calls) call cs there) (All-head (HasReason (WasGivenUp deed x end.judges)) call cs reasons)
+      (judged_causes cs (All-tail (Contains end.judges.book.calls) call cs there) (All-tail (HasReason (WasGivenUp deed x end.judges)) call cs reasons))
       (call.waits && call.has_given_up) (call.waits && nat_le call.deadline moment) refl refl
 
 -- and none is left with a cause
@@ -129,39 +129,39 @@ told_there now call (c ∷ cs) there waits has_given_up =
     later None h = h
     later (Some t) h = contains_more t (Unsure call.number cause.GivenUp) (filter_map (unsure_of now) cs) h
 
-given_up_ends : (deed : Deed) (x y : Node) → x.halves.closed ≡ false → (end : EndsAt deed x y) (n : CallNumber) → WasGivenUp deed x end.judges n → EndsInTurn end.judges n (told_of x.halves y.halves)
+given_up_ends : (deed : Deed) (x y : Node) → x.book.closed ≡ false → (end : EndsAt deed x y) (n : CallNumber) → WasGivenUp deed x end.judges n → EndsInTurn end.judges n (told_of x.book y.book)
 unfolding grows_through judge_grows
 given_up_ends deed x y open_x end n given =
     let z = end.judges in
     let d = given_stays deed x z n given in
     let moment = moment_of (moment_told deed) z.endpoint in
     let t = within_tells end.within in
-    let g = grows_through x.halves z.halves (judge moment z.halves) t.grows (judge_grows moment z.halves) in
-    let told : told_of x.halves y.halves ≡ t.grows.told ++ filter_map (unsure_of moment) z.halves.calls = ap (λ (v : Node). told_of x.halves v.halves) end.is ∙ told_more x.halves (judge moment z.halves) open_x g in
+    let g = grows_through x.book z.book (judge moment z.book) t.grows (judge_grows moment z.book) in
+    let told : told_of x.book y.book ≡ t.grows.told ++ filter_map (unsure_of moment) z.book.calls = ap (λ (v : Node). told_of x.book v.book) end.is ∙ told_more x.book (judge moment z.book) open_x g in
     record {
       call = d.call;
       there = d.there;
       number_is = d.number;
       tells = λ waits.
-          let one = told_there moment d.call z.halves.calls d.there waits d.has_given_up in
-          subst (λ (m : CallNumber). Contains (told_of x.halves y.halves) (Unsure m cause.GivenUp)) d.number
-          (subst (λ (ts : List Happening). Contains ts (Unsure d.call.number cause.GivenUp)) (sym told) (Contains-append_right t.grows.told (filter_map (unsure_of moment) z.halves.calls) (Unsure d.call.number cause.GivenUp) one));
+          let one = told_there moment d.call z.book.calls d.there waits d.has_given_up in
+          subst (λ (m : CallNumber). Contains (told_of x.book y.book) (Unsure m cause.GivenUp)) d.number
+          (subst (λ (ts : List Happening). Contains ts (Unsure d.call.number cause.GivenUp)) (sym told) (Contains-append_right t.grows.told (filter_map (unsure_of moment) z.book.calls) (Unsure d.call.number cause.GivenUp) one));
     }
 
 -- WHAT A DEED TELLS has its cause
 pub record Judged (deed : Deed) (x y : Node) : Type 0 where
-  pub causes : All (HasCause deed x y) (told_of x.halves y.halves)
-  pub answers : (m : CallNumber) (answer : List ℕ) → Contains (told_of x.halves y.halves) (Answered m answer) → Contains (told_between x y) (Answered m answer)
+  pub causes : All (HasCause deed x y) (told_of x.book y.book)
+  pub answers : (m : CallNumber) (answer : List ℕ) → Contains (told_of x.book y.book) (Answered m answer) → Contains (told_between x y) (Answered m answer)
   pub sure : AreSure y
 
-nothing_told : (deed : Deed) (x y : Node) → told_of x.halves y.halves ≡ [] → AreSure y → Judged deed x y
-nothing_told deed x y none sure = record { causes = subst (λ (ts : List Happening). All (HasCause deed x y) ts) (sym none) (All-nil (HasCause deed x y)); answers = λ m answer there. absurd (not_in_none (told_of x.halves y.halves) (Answered m answer) none there); sure = sure }
+nothing_told : (deed : Deed) (x y : Node) → told_of x.book y.book ≡ [] → AreSure y → Judged deed x y
+nothing_told deed x y none sure = record { causes = subst (λ (ts : List Happening). All (HasCause deed x y) ts) (sym none) (All-nil (HasCause deed x y)); answers = λ m answer there. absurd (not_in_none (told_of x.book y.book) (Answered m answer) none there); sure = sure }
 
-stays : (deed : Deed) (x y : Node) → y.halves ≡ x.halves → AreSure y → Judged deed x y
-stays deed x y same sure = nothing_told deed x y (ap (told_of x.halves) same ∙ drop-length (told_by x.halves)) sure
+stays : (deed : Deed) (x y : Node) → y.book ≡ x.book → AreSure y → Judged deed x y
+stays deed x y same sure = nothing_told deed x y (ap (told_of x.book) same ∙ drop-length (told_by x.book)) sure
 
 -- from a node within the turn on
-ends : (deed : Deed) (x z : Node) → x.halves.closed ≡ false → Reasons deed x z → Judged deed x (turn_end (moment_told deed) z)
+ends : (deed : Deed) (x z : Node) → x.book.closed ≡ false → Reasons deed x z → Judged deed x (turn_end (moment_told deed) z)
 unfolding grows_through judge_grows
 ends deed x z open_x reasons =
     let now = moment_told deed in
@@ -170,20 +170,20 @@ ends deed x z open_x reasons =
     let d = reasons_read deed x z reasons in
     let t = within_tells d.within in
     let moment = moment_of now r.endpoint in
-    let g = grows_through x.halves r.halves y.halves t.grows (judge_grows moment r.halves) in
+    let g = grows_through x.book r.book y.book t.grows (judge_grows moment r.book) in
     let end : EndsAt deed x y = record { judges = r; within = d.within; is = refl } in
     let le : r.endpoint.latest ≤ moment = omega arith in
-    let told : told_of x.halves y.halves ≡ told_between x y = told_more x.halves y.halves open_x g ∙ sym (ap (drop (length x.halves.happenings)) g.happenings ∙ drop-append_seam x.halves.happenings g.told) in
+    let told : told_of x.book y.book ≡ told_between x y = told_more x.book y.book open_x g ∙ sym (ap (drop (length x.book.happenings)) g.happenings ∙ drop-append_seam x.book.happenings g.told) in
     record {
-      causes = subst (λ (ts : List Happening). All (HasCause deed x y) ts) (sym (told_more x.halves y.halves open_x g))
-          (All-append (HasCause deed x y) t.grows.told (filter_map (unsure_of moment) r.halves.calls) (All-weaker NotUnsure (HasCause deed x y) (λ happening h. not_unsure deed x y happening h) t.grows.told t.sure)
-          (judged_causes deed x y end r.halves.calls (All-contains_itself r.halves.calls) d.reasons));
+      causes = subst (λ (ts : List Happening). All (HasCause deed x y) ts) (sym (told_more x.book y.book open_x g))
+          (All-append (HasCause deed x y) t.grows.told (filter_map (unsure_of moment) r.book.calls) (All-weaker NotUnsure (HasCause deed x y) (λ happening h. not_unsure deed x y happening h) t.grows.told t.sure)
+          (judged_causes deed x y end r.book.calls (All-contains_itself r.book.calls) d.reasons));
       answers = λ m answer there. subst (λ (ts : List Happening). Contains ts (Answered m answer)) told there;
-      sure = λ open_y. all_filtered (IsCalm r.endpoint.latest) is_kept (map (judged_call moment) r.halves.calls) (all_judged r.endpoint.latest moment le r.halves.calls);
+      sure = λ open_y. all_filtered (IsCalm r.endpoint.latest) is_kept (map (judged_call moment) r.book.calls) (all_judged r.endpoint.latest moment le r.book.calls);
     }
 
 -- A CALL
-call_reasons : (o : Option Refusal) (deed : Deed) {now patience : ℕ} {payload : List ℕ} (x z : Node) (f : Flow) (count deadline : ℕ) → deed ≡ MakesCall now f payload patience → Reasons deed x z → Reasons deed x (with_halves (with_call_unless o f count deadline) z)
+call_reasons : (o : Option Refusal) (deed : Deed) {now patience : ℕ} {payload : List ℕ} (x z : Node) (f : Flow) (count deadline : ℕ) → deed ≡ MakesCall now f payload patience → Reasons deed x z → Reasons deed x (with_book (with_call_unless o f count deadline) z)
 call_reasons None deed x z f count deadline asked d = reasons_call deed x z f count deadline asked d
 call_reasons (Some r) deed x z f count deadline asked d = d
 
@@ -194,13 +194,13 @@ call_judged None now f payload message patience x own is sure =
     let refused = send_answer now f message true true x.endpoint in
     let deadline = moment_of now x.endpoint + patience in
     let z = happens now (message_event f message) x in
-    let open_x = either_false x.endpoint.spent x.halves.closed (all_clear (call_refusals x f payload patience) is).0 in
-    ends deed x (with_halves (with_call_unless refused f (length message) deadline) z) open_x
+    let open_x = either_false x.endpoint.spent x.book.closed (all_clear (call_refusals x f payload patience) is).0 in
+    ends deed x (with_book (with_call_unless refused f (length message) deadline) z) open_x
     (call_reasons refused deed x z f (length message) deadline refl (reasons_hear deed x x (message_event f message) (of_deed own) (reasons_begin deed x (none_given_up x open_x sure))))
 
 -- A REPLY
-forgot_reasons : (o : Option Refusal) (deed : Deed) (x z : Node) (token : Token) → Reasons deed x z → Reasons deed x (with_halves (forgotten_unless o token) z)
-forgot_reasons None deed x z token d = reasons_stay deed x z (forgotten token z.halves) (record { calls = refl; happenings = refl; closed = refl }) d
+forgot_reasons : (o : Option Refusal) (deed : Deed) (x z : Node) (token : Token) → Reasons deed x z → Reasons deed x (with_book (forgotten_unless o token) z)
+forgot_reasons None deed x z token d = reasons_stay deed x z (forgotten token z.book) (record { calls = refl; happenings = refl; closed = refl }) d
 forgot_reasons (Some r) deed x z token d = d
 
 reply_judged : (o : Option Replied) (now : ℕ) (token : Token) (payload message : List ℕ) (x : Node) → IsEventOf (GivesReply now token payload) (message_event (reversed token.flow) message) → first_refusal (reply_refusals x token payload) ≡ o → AreSure x → Judged (GivesReply now token payload) x (unless o x (replied_by now token message x)).1
@@ -209,20 +209,20 @@ reply_judged None now token payload message x own is sure =
     let deed = GivesReply now token payload in
     let refused = send_answer now (reversed token.flow) message true true x.endpoint in
     let z = happens now (message_event (reversed token.flow) message) x in
-    let open_x = either_false x.endpoint.spent x.halves.closed (all_clear (reply_refusals x token payload) is).0 in
-    ends deed x (with_halves (forgotten_unless refused token) z) open_x
+    let open_x = either_false x.endpoint.spent x.book.closed (all_clear (reply_refusals x token payload) is).0 in
+    ends deed x (with_book (forgotten_unless refused token) z) open_x
     (forgot_reasons refused deed x z token (reasons_hear deed x x (message_event (reversed token.flow) message) (of_deed own) (reasons_begin deed x (none_given_up x open_x sure))))
 
-forget_judged : (o : Option Forgot) (now : ℕ) (token : Token) (x : Node) → first_refusal (forget_refusals x token) ≡ o → AreSure x → Judged (Forgets now token) x (unless o x (forgot.Done, turn_end now (with_halves (forgotten token) x))).1
+forget_judged : (o : Option Forgot) (now : ℕ) (token : Token) (x : Node) → first_refusal (forget_refusals x token) ≡ o → AreSure x → Judged (Forgets now token) x (unless o x (forgot.Done, turn_end now (with_book (forgotten token) x))).1
 forget_judged (Some a) now token x is sure = stays (Forgets now token) x x refl sure
 forget_judged None now token x is sure =
-    let open_x = either_false x.endpoint.spent x.halves.closed (either_first (is_closed x) _ (all_clear (forget_refusals x token) is).0) in
-    ends (Forgets now token) x (with_halves (forgotten token) x) open_x
-    (reasons_stay (Forgets now token) x x (forgotten token x.halves) (record { calls = refl; happenings = refl; closed = refl }) (reasons_begin (Forgets now token) x (none_given_up x open_x sure)))
+    let open_x = either_false x.endpoint.spent x.book.closed (either_first (is_closed x) _ (all_clear (forget_refusals x token) is).0) in
+    ends (Forgets now token) x (with_book (forgotten token) x) open_x
+    (reasons_stay (Forgets now token) x x (forgotten token x.book) (record { calls = refl; happenings = refl; closed = refl }) (reasons_begin (Forgets now token) x (none_given_up x open_x sure)))
 
 tick_judged : (b : Bool) (now : ℕ) (x : Node) → is_closed x ≡ b → AreSure x → Judged (Ticks now) x (cond {A = Ticked × Node} b (ticked.Spent, x) (ticked.Done, turn now Tick x)).1
 tick_judged true now x is sure = stays (Ticks now) x x refl sure
-tick_judged false now x is sure = let open_x = either_false x.endpoint.spent x.halves.closed is in ends (Ticks now) x (happens now Tick x) open_x (reasons_hear (Ticks now) x x Tick (of_deed refl) (reasons_begin (Ticks now) x (none_given_up x open_x sure)))
+tick_judged false now x is sure = let open_x = either_false x.endpoint.spent x.book.closed is in ends (Ticks now) x (happens now Tick x) open_x (reasons_hear (Ticks now) x x Tick (of_deed refl) (reasons_begin (Ticks now) x (none_given_up x open_x sure)))
 
 arrive_judged : (c : Bool) (o : Option Received) (now link : ℕ) (datagram : List ℕ) (waited : ℕ) (x : Node) → is_closed x ≡ c → AreSure x
     → Judged (Arrives now link datagram waited) x (cond {A = Received × Node} c (arrived.Spent, x) (or_counted o x (arrived.Done, turn now (arrive_event link datagram waited) x))).1
@@ -230,44 +230,44 @@ arrive_judged true o now link datagram waited x is sure = stays (Arrives now lin
 arrive_judged false (Some a) now link datagram waited x is sure = stays (Arrives now link datagram waited) x _ refl sure
 arrive_judged false None now link datagram waited x is sure =
     let event = arrive_event link datagram waited in
-    let open_x = either_false x.endpoint.spent x.halves.closed is in
+    let open_x = either_false x.endpoint.spent x.book.closed is in
     let deed = Arrives now link datagram waited in
     ends deed x (happens now event x) open_x (reasons_hear deed x x event (of_deed refl) (reasons_begin deed x (none_given_up x open_x sure)))
 
 -- WHAT IS NO TURN
-kind_judged : (port : ℕ) (o : Option PortKind) (kind : PortKind) (x : Node) → AreSure x → Judged (GivesKind port kind) x (with_halves (with_port port o kind) x)
+kind_judged : (port : ℕ) (o : Option PortKind) (kind : PortKind) (x : Node) → AreSure x → Judged (GivesKind port kind) x (with_book (with_port port o kind) x)
 kind_judged port (Some has) kind x sure = stays (GivesKind port kind) x x refl sure
-kind_judged port None kind x sure = nothing_told (GivesKind port kind) x _ (told_beside x.halves (with_port port None kind x.halves) refl refl refl) sure
+kind_judged port None kind x sure = nothing_told (GivesKind port kind) x _ (told_beside x.book (with_port port None kind x.book) refl refl refl) sure
 
-raise_judged : (b : Bool) (life : ℕ) (x : Node) → AreSure x → Judged (Raises life) x (record x { halves = cond b x.halves (record (x.halves) { life = life; count = 0 }) })
+raise_judged : (b : Bool) (life : ℕ) (x : Node) → AreSure x → Judged (Raises life) x (record x { book = cond b x.book (record (x.book) { life = life; count = 0 }) })
 raise_judged true life x sure = stays (Raises life) x x refl sure
-raise_judged false life x sure = nothing_told (Raises life) x _ (told_beside x.halves (record (x.halves) { life = life; count = 0 }) refl refl refl) sure
+raise_judged false life x sure = nothing_told (Raises life) x _ (told_beside x.book (record (x.book) { life = life; count = 0 }) refl refl refl) sure
 
-next_sure : (P : OpenCall → Type 0) (cs : List OpenCall) (h : Halves) → All P cs → All P h.calls → All P (next_call cs h).1.calls
+next_sure : (P : OpenCall → Type 0) (cs : List OpenCall) (h : CallBook) → All P cs → All P h.calls → All P (next_call cs h).1.calls
 next_sure P [] h all whole = whole
 next_sure P (call ∷ cs) h all whole = All-tail P call cs all
 
-closed_sure : (P : OpenCall → Type 0) (b : Bool) (h : Halves) → All P h.calls → All P (cond {A = Option Happening × Halves} b (next_call h.calls h) (None, h)).1.calls
+closed_sure : (P : OpenCall → Type 0) (b : Bool) (h : CallBook) → All P h.calls → All P (cond {A = Option Happening × CallBook} b (next_call h.calls h) (None, h)).1.calls
 closed_sure P true h all = next_sure P h.calls h all all
 closed_sure P false h all = all
 
-taken_sure : (P : OpenCall → Type 0) (told : List Happening) (h : Halves) → All P h.calls → All P (next_in told h).1.calls
+taken_sure : (P : OpenCall → Type 0) (told : List Happening) (h : CallBook) → All P h.calls → All P (next_in told h).1.calls
 taken_sure P [] h all = closed_sure P h.closed h all
 taken_sure P (x ∷ told) h all = all
 
-next_closed : (cs : List OpenCall) (h : Halves) → (next_call cs h).1.closed ≡ h.closed
+next_closed : (cs : List OpenCall) (h : CallBook) → (next_call cs h).1.closed ≡ h.closed
 next_closed [] h = refl
 next_closed (call ∷ cs) h = refl
 
-closed_closed : (b : Bool) (h : Halves) → (cond {A = Option Happening × Halves} b (next_call h.calls h) (None, h)).1.closed ≡ h.closed
+closed_closed : (b : Bool) (h : CallBook) → (cond {A = Option Happening × CallBook} b (next_call h.calls h) (None, h)).1.closed ≡ h.closed
 closed_closed true h = next_closed h.calls h
 closed_closed false h = refl
 
-taken_closed : (told : List Happening) (h : Halves) → (next_in told h).1.closed ≡ h.closed
+taken_closed : (told : List Happening) (h : CallBook) → (next_in told h).1.closed ≡ h.closed
 taken_closed [] h = closed_closed h.closed h
 taken_closed (x ∷ told) h = refl
 
-closing_causes : (deed : Deed) (x y : Node) → x.halves.closed ≡ false → y.halves.closed ≡ true → (cs : List OpenCall) → All (HasCause deed x y) (map closing_of cs)
+closing_causes : (deed : Deed) (x y : Node) → x.book.closed ≡ false → y.book.closed ≡ true → (cs : List OpenCall) → All (HasCause deed x y) (map closing_of cs)
 closing_causes deed x y open_x closed_y [] = All-nil (HasCause deed x y)
 closing_causes deed x y open_x closed_y (call ∷ cs) = All-cons (HasCause deed x y) (closing_of call) (map closing_of cs) (open_x, closed_y) (closing_causes deed x y open_x closed_y cs)
 
@@ -275,34 +275,34 @@ none_answered : (m : CallNumber) (answer : List ℕ) (cs : List OpenCall) → Co
 none_answered m answer [] there = (let lt = there.1 in omega (arith, lt))
 none_answered m answer (call ∷ cs) there = elim (contains_parts (closing_of call) (Answered m answer) (map closing_of cs) there) [ inl same ↦ absurd cc | inr more ↦ none_answered m answer cs more ]
 
-close_judged : (b : Bool) (x : Node) → x.halves.closed ≡ b → AreSure x → Judged Closes x (with_halves close x)
-close_judged true x is sure = nothing_told Closes x (with_halves close x) (closed_again x.halves is) (λ open_y. absurd cc)
+close_judged : (b : Bool) (x : Node) → x.book.closed ≡ b → AreSure x → Judged Closes x (with_book close x)
+close_judged true x is sure = nothing_told Closes x (with_book close x) (closed_again x.book is) (λ open_y. absurd cc)
 close_judged false x is sure = record {
-  causes = subst (λ (ts : List Happening). All (HasCause Closes x (with_halves close x)) ts) (sym (closed_now x.halves is)) (closing_causes Closes x (with_halves close x) is refl (filter (λ (call : OpenCall). call.waits) x.halves.calls));
-  answers = λ m answer there. absurd (none_answered m answer (filter (λ (call : OpenCall). call.waits) x.halves.calls) (subst (λ (ts : List Happening). Contains ts (Answered m answer)) (closed_now x.halves is) there));
+  causes = subst (λ (ts : List Happening). All (HasCause Closes x (with_book close x)) ts) (sym (closed_now x.book is)) (closing_causes Closes x (with_book close x) is refl (filter (λ (call : OpenCall). call.waits) x.book.calls));
+  answers = λ m answer there. absurd (none_answered m answer (filter (λ (call : OpenCall). call.waits) x.book.calls) (subst (λ (ts : List Happening). Contains ts (Answered m answer)) (closed_now x.book is) there));
   sure = λ open_y. absurd cc;
 }
 
 -- A TURN THAT FOUND NO MEMORY tells what it had told, and then that its node closed
-call_tells : (o : Option Refusal) (f : Flow) (count deadline : ℕ) (h : Halves) → Tells h (with_call_unless o f count deadline h)
+call_tells : (o : Option Refusal) (f : Flow) (count deadline : ℕ) (h : CallBook) → Tells h (with_call_unless o f count deadline h)
 call_tells None f count deadline h = tells_same h _ refl refl
 call_tells (Some r) f count deadline h = tells_same h h refl refl
 
-forgot_tells : (o : Option Refusal) (token : Token) (h : Halves) → Tells h (forgotten_unless o token h)
+forgot_tells : (o : Option Refusal) (token : Token) (h : CallBook) → Tells h (forgotten_unless o token h)
 forgot_tells None token h = tells_same h _ refl refl
 forgot_tells (Some r) token h = tells_same h h refl refl
 
-telling : IsKeptByDeeds (λ (x y : Node). Tells x.halves y.halves) Any
-telling = record { turns = tells_stopped; calls = λ o f count deadline x. call_tells o f count deadline x.halves; forgets = λ o token x. forgot_tells o token x.halves }
+telling : IsKeptByDeeds (λ (x y : Node). Tells x.book y.book) Any
+telling = record { turns = tells_stopped; calls = λ o f count deadline x. call_tells o f count deadline x.book; forgets = λ o token x. forgot_tells o token x.book }
 
-halted_judged : (deed : Deed) (x y : Node) → x.halves.closed ≡ false → Halts (λ (u v : Node). Tells u.halves v.halves) Any telling x y → Judged deed x y
+halted_judged : (deed : Deed) (x y : Node) → x.book.closed ≡ false → Halts (λ (u v : Node). Tells u.book v.book) Any telling x y → Judged deed x y
 halted_judged deed x y open_x h =
-    let st = h.stopped.halves in
+    let st = h.stopped.book in
     let g = h.part.grows in
     let left = filter (λ (call : OpenCall). call.waits) st.calls in
-    let closed_y : y.halves.closed ≡ true = ap (λ (z : Node). z.halves.closed) h.closed in
-    let told : told_of x.halves y.halves ≡ g.told ++ map closing_of left = told_closing x.halves st y.halves g.told open_x g.happenings (ap (λ (z : Node). z.halves) h.closed) in
-    let between : g.told ≡ told_between x y = sym (ap (λ (z : Node). drop (length x.halves.happenings) z.halves.happenings) h.closed ∙ ap (drop (length x.halves.happenings)) g.happenings ∙ drop-append_seam x.halves.happenings g.told) in
+    let closed_y : y.book.closed ≡ true = ap (λ (z : Node). z.book.closed) h.closed in
+    let told : told_of x.book y.book ≡ g.told ++ map closing_of left = told_closing x.book st y.book g.told open_x g.happenings (ap (λ (z : Node). z.book) h.closed) in
+    let between : g.told ≡ told_between x y = sym (ap (λ (z : Node). drop (length x.book.happenings) z.book.happenings) h.closed ∙ ap (drop (length x.book.happenings)) g.happenings ∙ drop-append_seam x.book.happenings g.told) in
     record {
       causes = subst (λ (ts : List Happening). All (HasCause deed x y) ts) (sym told)
           (All-append (HasCause deed x y) g.told (map closing_of left) (All-weaker NotUnsure (HasCause deed x y) (λ happening sure. not_unsure deed x y happening sure) g.told h.part.sure) (closing_causes deed x y open_x closed_y left));
@@ -316,19 +316,19 @@ halted_judged deed x y open_x h =
 
 -- WHATEVER IS DONE
 pub deed_judged : (setup : Setup) (net : Network) (n : ℕ) (deed : Deed) (x : Node) → KeepsDeed setup net n deed x → AreSure x → Judged deed x (node_after setup n deed x)
-deed_judged setup net n (MakesCall now f payload patience) x keeps sure = call_judged (first_refusal (call_refusals x f payload patience)) now f payload (message_of (number_of (next_number x.halves)) payload) patience x (next_number x.halves, refl) refl sure
-deed_judged setup net n (GivesKind port kind) x keeps sure = kind_judged port (kind_in port x.halves.ports) kind x sure
-deed_judged setup net n (GivesReply now token payload) x keeps sure = reply_judged (first_refusal (reply_refusals x token payload)) now token payload (message_of (number_of token.number) payload) x refl refl sure
+deed_judged setup net n (MakesCall now f payload patience) x keeps sure = call_judged (first_refusal (call_refusals x f payload patience)) now f payload (message_of (to_u64 (next_number x.book)) payload) patience x (next_number x.book, refl) refl sure
+deed_judged setup net n (GivesKind port kind) x keeps sure = kind_judged port (kind_in port x.book.ports) kind x sure
+deed_judged setup net n (GivesReply now token payload) x keeps sure = reply_judged (first_refusal (reply_refusals x token payload)) now token payload (message_of (to_u64 token.number) payload) x refl refl sure
 deed_judged setup net n (Forgets now token) x keeps sure = forget_judged (first_refusal (forget_refusals x token)) now token x refl sure
 deed_judged setup net n (Ticks now) x keeps sure = tick_judged (is_closed x) now x refl sure
 deed_judged setup net n (Arrives now link datagram waited) x keeps sure = arrive_judged (is_closed x) (arrive_refusal link datagram waited x.endpoint) now link datagram waited x refl sure
-deed_judged setup net n (Raises life) x keeps sure = raise_judged (is_life_in_use life x.halves) life x sure
-deed_judged setup net n TakesHappening x keeps sure = nothing_told TakesHappening x (node_after setup n TakesHappening x) (taken_told x.halves.happenings x.halves refl) (λ open_y. taken_sure (IsCalm x.endpoint.latest) x.halves.happenings x.halves (sure (sym (taken_closed x.halves.happenings x.halves) ∙ open_y)))
+deed_judged setup net n (Raises life) x keeps sure = raise_judged (is_life_in_use life x.book) life x sure
+deed_judged setup net n TakesHappening x keeps sure = nothing_told TakesHappening x (node_after setup n TakesHappening x) (taken_told x.book.happenings x.book refl) (λ open_y. taken_sure (IsCalm x.endpoint.latest) x.book.happenings x.book (sure (sym (taken_closed x.book.happenings x.book) ∙ open_y)))
 deed_judged setup net n PullsFrame x keeps sure = stays PullsFrame x (node_after setup n PullsFrame x) refl sure
-deed_judged setup net n Closes x keeps sure = close_judged x.halves.closed x refl sure
-deed_judged setup net n (OpensAgain again options most life) x keeps sure = nothing_told (OpensAgain again options most life) x (node_after setup n (OpensAgain again options most life) x) (drop-nil (length (told_by x.halves))) (λ open_y. All-nil (IsCalm (node_after setup n (OpensAgain again options most life) x).endpoint.latest))
+deed_judged setup net n Closes x keeps sure = close_judged x.book.closed x refl sure
+deed_judged setup net n (OpensAgain again options most life) x keeps sure = nothing_told (OpensAgain again options most life) x (node_after setup n (OpensAgain again options most life) x) (drop-nil (length (told_by x.book))) (λ open_y. All-nil (IsCalm (node_after setup n (OpensAgain again options most life) x).endpoint.latest))
 deed_judged setup net n (FindsNoMemory deed after) x keeps sure =
-    halted_judged (FindsNoMemory deed after) x after (broken_open deed x after keeps.1) (halts (λ (u v : Node). Tells u.halves v.halves) Any telling deed x after (λ event own. tt) keeps.1)
+    halted_judged (FindsNoMemory deed after) x after (broken_open deed x after keeps.1) (halts (λ (u v : Node). Tells u.book v.book) Any telling deed x after (λ event own. tt) keeps.1)
 
 -- AN ANSWER that is told is one of the answers
 answer_there : (m : CallNumber) (answer : List ℕ) (told : List Happening) → Contains told (Answered m answer) → Contains (each_of answer_in told) (record { number = m; carried = answer })

@@ -65,7 +65,7 @@ new_at P setup opens k e there = first setup.nodes there
 new_unspent : (setup : Setup) (k : ℕ) (e : EndpointValue) → IsAt k (new_network setup) e → e.spent ≡ false
 new_unspent setup = new_at (λ (x : EndpointValue). x.spent ≡ false) setup (λ n options. refl)
 
-pub new_on : (setup : Setup) (most : ℕ → Most) (life : ℕ → ℕ) (k : ℕ) (e : EndpointValue) → IsAt k (new_services setup most life).network e → (e.spent ≡ false) ⊎ (((new_services setup most life).halves k).closed ≡ true)
+pub new_on : (setup : Setup) (most : ℕ → Most) (life : ℕ → ℕ) (k : ℕ) (e : EndpointValue) → IsAt k (new_services setup most life).network e → (e.spent ≡ false) ⊎ (((new_services setup most life).book k).closed ≡ true)
 new_on setup most life k e there = inl (new_unspent setup k e there)
 
 pub new_reading : (setup : Setup) (most : ℕ → Most) (life : ℕ → ℕ) (k : ℕ) (e : EndpointValue) → IsAt k (new_network setup) e → IsReading (node_with k (new_services setup most life) e)

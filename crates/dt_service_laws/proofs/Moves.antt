@@ -19,8 +19,8 @@ use Rattle.dt_service_model.specs.declared.happenings.Happening.{Happening}
 use Rattle.dt_service_model.specs.declared.happenings.Happening.TheVariants.{Answered, ReplyUncertain, Request, Unsure}
 use Rattle.dt_service_model.specs.declared.names.Token.{Token}
 use Rattle.dt_service_model.specs.Names.{same_token}
-use Rattle.dt_service_model.specs.Halves.{Halves}
-use Rattle.dt_service_model.specs.Turns.{Node, comes_in, hears, most_read, with_halves}
+use Rattle.dt_service_model.specs.CallBook.{CallBook}
+use Rattle.dt_service_model.specs.Turns.{Node, comes_in, hears, most_read, with_book}
 use Rattle.dt_service_model.specs.Whole.{is_of, take_piece}
 
 -- WHAT A NODE HAS BEGUN of a flow: nothing, or one entry, with what its octets have begun
@@ -55,7 +55,7 @@ abbrev pub open_count : Token → List Token → ℕ
 open_count t tokens = total (λ (s : Token). one_if (same_token t s)) tokens
 
 -- A QUIET CHANGE: nothing is opened, and no request and no answer is told
-pub record IsQuiet (h k : Halves) : Type 0 where
+pub record IsQuiet (h k : CallBook) : Type 0 where
   pub ports : k.ports ≡ h.ports
   pub closes : h.closed ≡ true → k.closed ≡ true
   pub life : k.life ≡ h.life
@@ -89,7 +89,7 @@ module _ (setup : Setup) (n : ℕ) where
 
   pub data Moves (base : Network) : Node → List Step → Node → Type 0 where
     rests : {x : Node} → Moves base x [] x
-    changes : {x y : Node} {steps : List Step} (h : Halves) → IsQuiet x.halves h → Moves base (record x { halves = h }) steps y → Moves base x steps y
+    changes : {x y : Node} {steps : List Step} (h : CallBook) → IsQuiet x.book h → Moves base (record x { book = h }) steps y → Moves base x steps y
     calls : {x y : Node} {steps : List Step} (call : Call) (f : EndpointValue) → MayCall base call x.endpoint f → ((g : Flow) → read_by g call ≡ []) → ((g : Flow) (taken : List Item) → Takes g call taken → taken ≡ []) → Moves base (hears (record x { endpoint = f })) steps y → Moves base x (Calls n call f ∷ (pulls f f.reports ++ steps)) y
     reads : {x y : Node} {steps : List Step} (now : ℕ) (g : Flow) (p : Piece) (o : ℕ) (os : List ℕ) (f : EndpointValue) → comes_in x g ≡ true → p.octets ≡ o ∷ os → MayCall base (CallRead now g most_read p.octets (answer.Read (length p.octets) p.run p.begin p.end)) x.endpoint f
-        → Moves base (with_halves (take_piece g p) (hears (record x { endpoint = f }))) steps y → Moves base x (Calls n (CallRead now g most_read p.octets (answer.Read (length p.octets) p.run p.begin p.end)) f ∷ (pulls f f.reports ++ steps)) y
+        → Moves base (with_book (take_piece g p) (hears (record x { endpoint = f }))) steps y → Moves base x (Calls n (CallRead now g most_read p.octets (answer.Read (length p.octets) p.run p.begin p.end)) f ∷ (pulls f f.reports ++ steps)) y

@@ -6,19 +6,19 @@ use Rattle.dt_calls_model.specs.Messages.{message_of, reversed}
 use Rattle.dt_endpoint.specs.Calls.{arrive_event, arrive_refusal}
 use Rattle.dt_network.specs.Network.{Network, Setup}
 use Rattle.dt_service_model.specs.Asked.{message_event, next_number}
-use Rattle.dt_service_model.specs.Names.{number_of}
+use Rattle.dt_service_model.specs.Names.{to_u64}
 use Rattle.dt_service_model.specs.Turns.{Node, happens}
 use Rattle.dt_service_laws.specs.Premises as owed
 use Rattle.dt_service_laws.specs.Services.{Arrives, Closes, Deed, Does, FindsNoMemory, Forgets, GivesKind, GivesReply, MakesCall, OpensAgain, Passes, PullsFrame, Raises, Services, TakesHappening, Ticks, Turn, node_at, services_after}
 
 abbrev pub ReadsFlows : Node → Type 0
-ReadsFlows x = All IsFlow x.halves.unread
+ReadsFlows x = All IsFlow x.book.unread
 
 -- what a node is to read at the end of a turn are flows. A datagram that is refused is no turn
 abbrev pub ReadsIn : Deed → Node → Type 0
 ReadsIn (GivesKind port kind) x = Unit {0}
-ReadsIn (MakesCall now f payload patience) x = ReadsFlows (happens now (message_event f (message_of (number_of (next_number x.halves)) payload)) x)
-ReadsIn (GivesReply now token payload) x = ReadsFlows (happens now (message_event (reversed token.flow) (message_of (number_of token.number) payload)) x)
+ReadsIn (MakesCall now f payload patience) x = ReadsFlows (happens now (message_event f (message_of (to_u64 (next_number x.book)) payload)) x)
+ReadsIn (GivesReply now token payload) x = ReadsFlows (happens now (message_event (reversed token.flow) (message_of (to_u64 token.number) payload)) x)
 ReadsIn (Forgets now token) x = ReadsFlows x
 ReadsIn (Ticks now) x = ReadsFlows (happens now Tick x)
 ReadsIn (Arrives now link datagram waited) x = arrive_refusal link datagram waited x.endpoint ≡ None → ReadsFlows (happens now (arrive_event link datagram waited) x)

@@ -18,7 +18,7 @@ use Rattle.dt_service_model.specs.declared.names.Token.{Token}
 use Rattle.dt_service_model.specs.Names.{same_token}
 use Rattle.dt_service_model.specs.Asked.{forgotten}
 use Rattle.dt_service_model.specs.Ends.{cause_of, close, is_kept, judge, judged_as, judged_call, unsure_by, unsure_of}
-use Rattle.dt_service_model.specs.Halves.{Halves, is_service, kind_in}
+use Rattle.dt_service_model.specs.CallBook.{CallBook, is_service, kind_in}
 use Rattle.dt_service_model.specs.Hearing.{Accepts, GivesUp, Heard, NoMatter, Settles, hear, hear_as, heard, is_uncertain, with_fates, with_flow}
 use Rattle.dt_service_model.specs.Turns.{done_with, has_receiver, sweep}
 use Rattle.dt_service_laws.proofs.Begun.{swept_tracks}
@@ -37,7 +37,7 @@ kept_through xs ys zs first second =
     zs second
 
 -- nothing changes but what no law speaks of
-pub quiet_same : (h k : Halves) → k.ports ≡ h.ports → (h.closed ≡ true → k.closed ≡ true) → k.life ≡ h.life → k.count ≡ h.count → k.tokens ≡ h.tokens → k.begun ≡ h.begun → k.calls ≡ h.calls → k.happenings ≡ h.happenings → IsQuiet h k
+pub quiet_same : (h k : CallBook) → k.ports ≡ h.ports → (h.closed ≡ true → k.closed ≡ true) → k.life ≡ h.life → k.count ≡ h.count → k.tokens ≡ h.tokens → k.begun ≡ h.begun → k.calls ≡ h.calls → k.happenings ≡ h.happenings → IsQuiet h k
 quiet_same h k ports closes life count tokens begun calls happenings = record {
   ports = ports;
   closes = closes;
@@ -52,10 +52,10 @@ quiet_same h k ports closes life count tokens begun calls happenings = record {
   unsure = All-nil IsNoMessage;
 }
 
-pub quiet_itself : (h : Halves) → IsQuiet h h
+pub quiet_itself : (h : CallBook) → IsQuiet h h
 quiet_itself h = quiet_same h h refl (λ c. c) refl refl refl refl refl refl
 
-pub quiet_then : (h k l : Halves) → IsQuiet h k → IsQuiet k l → IsQuiet h l
+pub quiet_then : (h k l : CallBook) → IsQuiet h k → IsQuiet k l → IsQuiet h l
 quiet_then h k l p q = record {
   ports = q.ports ∙ p.ports;
   closes = λ c. q.closes (p.closes c);
@@ -71,7 +71,7 @@ quiet_then h k l p q = record {
 }
 
 -- what calls, what was begun and what was told change to
-quiet_to : (h : Halves) (calls : List OpenCall) (begun : List (Flow × List ℕ)) (counts : CallCounts) (happenings told : List Happening) → AreKeptFrom h.calls calls → ((g : Flow) (b : Option (List ℕ)) → Tracks g b h.begun → Tracks g b begun) → happenings ≡ h.happenings ++ told → All IsNoMessage told
+quiet_to : (h : CallBook) (calls : List OpenCall) (begun : List (Flow × List ℕ)) (counts : CallCounts) (happenings told : List Happening) → AreKeptFrom h.calls calls → ((g : Flow) (b : Option (List ℕ)) → Tracks g b h.begun → Tracks g b begun) → happenings ≡ h.happenings ++ told → All IsNoMessage told
     → IsQuiet h (record h { calls = calls; begun = begun; counts = counts; happenings = happenings })
 quiet_to h calls begun counts happenings told kept tracked more unsure = record {
   ports = refl;
@@ -87,7 +87,7 @@ quiet_to h calls begun counts happenings told kept tracked more unsure = record 
   unsure = unsure;
 }
 
-quiet_calls : (h : Halves) (calls : List OpenCall) → AreKeptFrom h.calls calls → IsQuiet h (record h { calls = calls })
+quiet_calls : (h : CallBook) (calls : List OpenCall) → AreKeptFrom h.calls calls → IsQuiet h (record h { calls = calls })
 quiet_calls h calls kept = quiet_to h calls h.begun h.counts h.happenings [] kept (λ g b tracks. tracks) (sym (append-nil h.happenings)) (All-nil IsNoMessage)
 
 -- WHAT IS HEARD
@@ -101,31 +101,31 @@ all_fates base given_up f count (call ∷ calls) all =
       | inr o ↦ rw o (All-cons (λ (c : OpenCall). c.waits ≡ true → IsKeptFrom base c) _ _ (λ waits. record { was = call; there = here; waits = waits; number = refl; flow = refl }) (all_fates base given_up f count calls rest))
     ]
 
-accepts_quiet : (b : Bool) (f : Flow) (h : Halves) → IsQuiet h (cond b (record h { unread = with_flow f h.unread }) h)
+accepts_quiet : (b : Bool) (f : Flow) (h : CallBook) → IsQuiet h (cond b (record h { unread = with_flow f h.unread }) h)
 accepts_quiet true f h = quiet_same h (record h { unread = with_flow f h.unread }) refl (λ c. c) refl refl refl refl refl refl
 accepts_quiet false f h = quiet_same h h refl (λ c. c) refl refl refl refl refl refl
 
-given_up_quiet : (b c : Bool) (f : Flow) (calls : List OpenCall) (h : Halves) → AreKeptFrom h.calls calls → IsQuiet h (record h { calls = calls; happenings = cond b (cond c h.happenings (h.happenings ++ ReplyUncertain f ∷ [])) h.happenings })
+given_up_quiet : (b c : Bool) (f : Flow) (calls : List OpenCall) (h : CallBook) → AreKeptFrom h.calls calls → IsQuiet h (record h { calls = calls; happenings = cond b (cond c h.happenings (h.happenings ++ ReplyUncertain f ∷ [])) h.happenings })
 given_up_quiet true true f calls h kept = quiet_calls h calls kept
 given_up_quiet true false f calls h kept = quiet_to h calls h.begun h.counts (h.happenings ++ ReplyUncertain f ∷ []) (ReplyUncertain f ∷ []) kept (λ g b tracks. tracks) refl (All-cons IsNoMessage (ReplyUncertain f) [] tt (All-nil IsNoMessage))
 given_up_quiet false c f calls h kept = quiet_calls h calls kept
 
-heard_quiet : (x : Heard) (h : Halves) → IsQuiet h (hear_as x h)
+heard_quiet : (x : Heard) (h : CallBook) → IsQuiet h (hear_as x h)
 heard_quiet (Settles f count) h = quiet_calls h (with_fates false f count h.calls) (all_fates h.calls false f count h.calls (All-contains_itself h.calls))
 heard_quiet (GivesUp f count) h = given_up_quiet (is_service (kind_in f.from_port h.ports)) (list_any (is_uncertain (reversed f)) h.happenings) (reversed f) (with_fates true f count h.calls) h (all_fates h.calls true f count h.calls (All-contains_itself h.calls))
 heard_quiet (Accepts f) h = accepts_quiet (is_some (kind_in f.to_port h.ports)) f h
 heard_quiet NoMatter h = quiet_same h h refl (λ c. c) refl refl refl refl refl refl
 
-pub all_heard_quiet : (told : List Told) (h : Halves) → IsQuiet h (fold hear h told)
+pub all_heard_quiet : (told : List Told) (h : CallBook) → IsQuiet h (fold hear h told)
 all_heard_quiet [] h = quiet_same h h refl (λ c. c) refl refl refl refl refl refl
 all_heard_quiet (t ∷ told) h = quiet_then h (hear h t) (fold hear (hear h t) told) (heard_quiet (heard t) h) (all_heard_quiet told (hear h t))
 
 -- A FLOW IS READ NO MORE
-pub done_quiet : (f : Flow) (h : Halves) → IsQuiet h (done_with f h)
+pub done_quiet : (f : Flow) (h : CallBook) → IsQuiet h (done_with f h)
 done_quiet f h = quiet_same h (done_with f h) refl (λ c. c) refl refl refl refl refl refl
 
 -- WHAT WAS BEGUN without a receiver goes
-pub sweep_quiet : (host : Host) (h : Halves) → IsQuiet h (sweep host h)
+pub sweep_quiet : (host : Host) (h : CallBook) → IsQuiet h (sweep host h)
 sweep_quiet host h = quiet_to h h.calls (sweep host h).begun (sweep host h).counts h.happenings [] (kept_itself h.calls) (λ g b tracks. swept_tracks (has_receiver host) g b h.begun tracks) (sym (append-nil h.happenings)) (All-nil IsNoMessage)
 
 -- CALLS ARE JUDGED
@@ -149,7 +149,7 @@ all_judged base now (call ∷ calls) all = by_kept (is_kept (judged_call now cal
     by_kept true rest = All-cons (λ (c : OpenCall). c.waits ≡ true → IsKeptFrom base c) (judged_call now call) (filter is_kept (map (judged_call now) calls)) (by_cause (cause_of now call)) rest
     by_kept false rest = rest
 
-pub judge_quiet : (now : ℕ) (h : Halves) → IsQuiet h (judge now h)
+pub judge_quiet : (now : ℕ) (h : CallBook) → IsQuiet h (judge now h)
 judge_quiet now h = quiet_to h (judge now h).calls h.begun h.counts (judge now h).happenings (filter_map (unsure_of now) h.calls) (all_judged h.calls now h.calls (All-contains_itself h.calls)) (λ g b tracks. tracks) refl (unsure_all now h.calls)
 
 -- A TOKEN IS OPEN NO MORE
@@ -165,7 +165,7 @@ pub fewer_open : (t : Token) (keep : Token → Bool) (tokens : List Token) → o
 fewer_open t keep [] = omega arith
 fewer_open t keep (s ∷ tokens) = let more = fewer_open t keep tokens in elim (cases_Bool (keep s)) [ inl y ↦ rw y (omega (arith, more)) | inr o ↦ rw o (omega (arith, more)) ]
 
-quiet_tokens : (h : Halves) (keep : Token → Bool) → IsQuiet h (record h { tokens = filter keep h.tokens })
+quiet_tokens : (h : CallBook) (keep : Token → Bool) → IsQuiet h (record h { tokens = filter keep h.tokens })
 quiet_tokens h keep = record {
   ports = refl;
   closes = λ c. c;
@@ -180,11 +180,11 @@ quiet_tokens h keep = record {
   unsure = All-nil IsNoMessage;
 }
 
-pub forgotten_quiet : (token : Token) (h : Halves) → IsQuiet h (forgotten token h)
+pub forgotten_quiet : (token : Token) (h : CallBook) → IsQuiet h (forgotten token h)
 forgotten_quiet token h = quiet_tokens h (λ t. not (same_token token t))
 
 -- A NODE CLOSES
-pub close_quiet : (h : Halves) → IsQuiet h (close h)
+pub close_quiet : (h : CallBook) → IsQuiet h (close h)
 close_quiet h = record {
   ports = refl;
   closes = λ c. refl;

@@ -10,7 +10,7 @@ use Rattle.dt_world_model.specs.Worked.{main_flow}
 use Rattle.dt_calls_model.specs.Messages.{message_of}
 use Rattle.dt_network.specs.Network.{Flight, Setup}
 use Rattle.dt_service_model.specs.declared.ports.PortKind.TheVariants.{Caller}
-use Rattle.dt_service_model.specs.Names.{number_of, number_with, token_with}
+use Rattle.dt_service_model.specs.Names.{to_u64, number_with, token_with}
 use Rattle.dt_service_model.specs.Worked.{roomy}
 use Rattle.dt_service_laws.specs.Premises.{KeepsTurn, KeepsTurns}
 use Rattle.dt_service_laws.specs.Services.{Arrives, Does, GivesKind, GivesReply, MakesCall, OpensAgain, Passes, Services, Turn, services_after, services_by}
@@ -84,7 +84,7 @@ third = services_by two_nodes replied_late two_services
 
 -- the replies as they left, in one computation each
 abbrev replied_with : (number : ℕ) (run : Bool) (life octet : ℕ) → Flight
-replied_with number run life octet = record { frame = record { link = 7; to = 1; octets = gram_spelling (carrying 999 2 1 (Data 20 10 number run true true (message_of (number_of (number_with life 0)) (octet ∷ [])))) }; put = 6240 }
+replied_with number run life octet = record { frame = record { link = 7; to = 1; octets = gram_spelling (carrying 999 2 1 (Data 20 10 number run true true (message_of (to_u64 (number_with life 0)) (octet ∷ [])))) }; put = 6240 }
 
 first_left : Contains third.network.left (replied_with 0 true 5 65)
 unfolding gram_spelling packet_spelling gram_in packet_in packet_fault gram_fault life_of to_of lowered

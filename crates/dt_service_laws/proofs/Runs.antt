@@ -112,7 +112,7 @@ module _ (setup : Setup) (n : ℕ) where
 
   pub runs : (base : Network) (x y : Node) (steps : List Step) → Moves setup n base x steps y → (m : Network) → IsLater base m → IsAt n m x.endpoint → Runs x.endpoint y.endpoint steps m
   runs base x y steps (rests {x = z}) m later there = no_steps z.endpoint m there
-  runs base x y steps (changes {x = z} {y = u} {steps = ss} h quiet more) m later there = runs base (record z { halves = h }) u ss more m later there
+  runs base x y steps (changes {x = z} {y = u} {steps = ss} h quiet more) m later there = runs base (record z { book = h }) u ss more m later there
   runs base x y steps (calls {x = z} {y = u} {steps = ss} call f may none taken more) m later there =
       heard_calls base z call f u.endpoint ss m may later there (λ k on at. runs base (hears (record z { endpoint = f })) u ss more k on at)
   runs base x y steps (reads {x = z} {y = u} {steps = ss} now g p o os f comes some may more) m later there =

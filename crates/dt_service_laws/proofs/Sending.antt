@@ -8,7 +8,7 @@ use Rattle.dt_endpoint.specs.Endpoints.{EndpointValue}
 use Rattle.dt_network.specs.Network.{Network, Setup}
 use Rattle.dt_network.specs.Octets.{AreTaken, TakesIn}
 use Rattle.dt_network.specs.Steps.{CallRead, Calls, PullReport, Step}
-use Rattle.dt_service_model.specs.Turns.{Node, hears, most_read, with_halves}
+use Rattle.dt_service_model.specs.Turns.{Node, hears, most_read, with_book}
 use Rattle.dt_service_model.specs.Whole.{take_piece}
 use Rattle.dt_service_laws.proofs.Moves.{Moves, calls, changes, pulls, reads, rests}
 
@@ -52,6 +52,6 @@ module _ (setup : Setup) (n : ℕ) where
 
   pub moves_take : (base : Network) (g : Flow) (x y : Node) (steps : List Step) → Moves setup n base x steps y → Takings g steps []
   moves_take base g x y steps rests = takes_nothing g
-  moves_take base g x y steps (changes {x = z} {y = u} {steps = ss} h quiet more) = moves_take base g (record z { halves = h }) u ss more
+  moves_take base g x y steps (changes {x = z} {y = u} {steps = ss} h quiet more) = moves_take base g (record z { book = h }) u ss more
   moves_take base g x y steps (calls {x = z} {y = u} {steps = ss} call f may none taken more) = takes_more g (Calls n call f) (pulls setup n f f.reports ++ ss) [] [] (λ first t. taken g first t) (behind_takes g f f.reports ss [] (moves_take base g (hears (record z { endpoint = f })) u ss more))
-  moves_take base g x y steps (reads {x = z} {y = u} {steps = ss} now k p o os f comes some may more) = takes_more g (Calls n (CallRead now k most_read p.octets (answer.Read (length p.octets) p.run p.begin p.end)) f) (pulls setup n f f.reports ++ ss) [] [] (λ first t. t) (behind_takes g f f.reports ss [] (moves_take base g (with_halves (take_piece k p) (hears (record z { endpoint = f }))) u ss more))
+  moves_take base g x y steps (reads {x = z} {y = u} {steps = ss} now k p o os f comes some may more) = takes_more g (Calls n (CallRead now k most_read p.octets (answer.Read (length p.octets) p.run p.begin p.end)) f) (pulls setup n f f.reports ++ ss) [] [] (λ first t. t) (behind_takes g f f.reports ss [] (moves_take base g (with_book (take_piece k p) (hears (record z { endpoint = f }))) u ss more))

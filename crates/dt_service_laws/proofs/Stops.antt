@@ -22,10 +22,10 @@ use Rattle.dt_network.specs.Octets.{Takes, items_read, read_by, read_if}
 use Rattle.dt_network.specs.Steps.{Call, CallRead, Calls, Step}
 use Rattle.dt_service_model.specs.declared.call_counts.CallCounts.{CallCounts}
 use Rattle.dt_service_model.specs.Ends.{close}
-use Rattle.dt_service_model.specs.Halves.{Halves, may_read}
+use Rattle.dt_service_model.specs.CallBook.{CallBook, may_read}
 use Rattle.dt_service_model.specs.Hearing.{hear_all}
 use Rattle.dt_service_model.specs.Stopping.{EndStops, EventStops, ReadStops, at_flow, at_judging, at_piece, breaks_off, heard_in_part, hears_part, in_read, not_begun, not_read}
-use Rattle.dt_service_model.specs.Turns.{Node, comes_in, happens, hears, most_read, read_flow, read_times, reads as reads_all, sweep, with_halves}
+use Rattle.dt_service_model.specs.Turns.{Node, comes_in, happens, hears, most_read, read_flow, read_times, reads as reads_all, sweep, with_book}
 use Rattle.dt_service_laws.proofs.Elsewhere.{IsLawful, not_here}
 use Rattle.dt_service_laws.proofs.Ending.{Goes, flows, goes_then, may_read_with, none_refused, not_true, time_later, times}
 use Rattle.dt_service_laws.proofs.Moves.{IsQuiet, MayCall, changes, rests}
@@ -45,7 +45,7 @@ all_parts P (z ∷ xs) x ys all =
     (All-cons P z xs (All-head P z (xs ++ x ∷ ys) all) more.0, more.1)
 
 -- what was begun and counted is no matter once the node is closed
-lost_quiet : (h : Halves) (begun : List (Flow × List ℕ)) (counts : CallCounts) → IsQuiet h (close (record h { begun = begun; counts = counts }))
+lost_quiet : (h : CallBook) (begun : List (Flow × List ℕ)) (counts : CallCounts) → IsQuiet h (close (record h { begun = begun; counts = counts }))
 lost_quiet h begun counts = quiet_then h (close h) (close (record h { begun = begun; counts = counts })) (close_quiet h) (quiet_same (close h) (close (record h { begun = begun; counts = counts })) refl (λ c. c) refl refl refl refl refl refl)
 
 module _ (setup : Setup) (Good : Network → Type 0) (law : IsLawful setup Good) (n : ℕ) (base : Network) where
@@ -53,12 +53,12 @@ module _ (setup : Setup) (Good : Network → Type 0) (law : IsLawful setup Good)
     pub steps : List Step
     pub way : Way setup Good law n base Posts x steps y
 
-  stop_there : (Posts : Flow → List Item → Type 0) (x y z : Node) → z ≡ y → Stop Posts x (with_halves close y) → Stop Posts x (with_halves close z)
-  stop_there Posts x y z is stop = subst (λ (k : Node). Stop Posts x (with_halves close k)) (sym is) stop
+  stop_there : (Posts : Flow → List Item → Type 0) (x y z : Node) → z ≡ y → Stop Posts x (with_book close y) → Stop Posts x (with_book close z)
+  stop_there Posts x y z is stop = subst (λ (k : Node). Stop Posts x (with_book close k)) (sym is) stop
 
   -- at once
-  pub stop_here : (x : Node) → x.endpoint.spent ≡ false → Stop AreNone x (with_halves close x)
-  stop_here x unspent = record { steps = []; way = moves_way setup Good law n base x (with_halves close x) [] (changes (close x.halves) (close_quiet x.halves) rests) unspent }
+  pub stop_here : (x : Node) → x.endpoint.spent ≡ false → Stop AreNone x (with_book close x)
+  stop_here x unspent = record { steps = []; way = moves_way setup Good law n base x (with_book close x) [] (changes (close x.book) (close_quiet x.book) rests) unspent }
 
   -- after moves
   stop_then : (x y z : Node) → x.endpoint.spent ≡ false → Goes setup n base x y → Stop AreNone y z → Stop AreNone x z
@@ -74,23 +74,23 @@ module _ (setup : Setup) (Good : Network → Type 0) (law : IsLawful setup Good)
     pub reads : (g : Flow) → (n == g.to.0) ≡ false → (m : Network) → IsAt n m x.endpoint → Good m → read_by g call ≡ []
 
   -- it broke off
-  pub broke_stop : (Posts : Flow → List Item → Type 0) (call : Call) (x : Node) (f : EndpointValue) → LastCall Posts call x f → Stop Posts x (with_halves close (record x { endpoint = f }))
-  broke_stop Posts call x f last = record { steps = Calls n call f ∷ pulled n 0 f f.reports; way = last_way setup Good law n base Posts x call f 0 (close x.halves) last.can (close_quiet x.halves) refl last.takes last.reads }
+  pub broke_stop : (Posts : Flow → List Item → Type 0) (call : Call) (x : Node) (f : EndpointValue) → LastCall Posts call x f → Stop Posts x (with_book close (record x { endpoint = f }))
+  broke_stop Posts call x f last = record { steps = Calls n call f ∷ pulled n 0 f f.reports; way = last_way setup Good law n base Posts x call f 0 (close x.book) last.can (close_quiet x.book) refl last.takes last.reads }
 
   -- it was done, and a first part of its reports was heard
-  pub heard_stop : (Posts : Flow → List Item → Type 0) (call : Call) (x : Node) (f : EndpointValue) (count : ℕ) → LastCall Posts call x f → Stop Posts x (with_halves close (heard_in_part count (record x { endpoint = f })))
+  pub heard_stop : (Posts : Flow → List Item → Type 0) (call : Call) (x : Node) (f : EndpointValue) (count : ℕ) → LastCall Posts call x f → Stop Posts x (with_book close (heard_in_part count (record x { endpoint = f })))
   heard_stop Posts call x f count last =
-      let h = close (hear_all (take count f.reports) x.halves) in
-      let way = last_way setup Good law n base Posts x call f (suc count) h last.can (quiet_then x.halves (hear_all (take count f.reports) x.halves) h (all_heard_quiet (take count f.reports) x.halves) (close_quiet (hear_all (take count f.reports) x.halves))) refl last.takes last.reads in
-      record { steps = Calls n call f ∷ pulled n (suc count) f f.reports; way = subst (λ (rs : List Told). Way setup Good law n base Posts x (Calls n call f ∷ pulled n (suc count) f f.reports) (record { endpoint = record f { reports = rs }; halves = h })) (drop_one count f.reports) way }
+      let h = close (hear_all (take count f.reports) x.book) in
+      let way = last_way setup Good law n base Posts x call f (suc count) h last.can (quiet_then x.book (hear_all (take count f.reports) x.book) h (all_heard_quiet (take count f.reports) x.book) (close_quiet (hear_all (take count f.reports) x.book))) refl last.takes last.reads in
+      record { steps = Calls n call f ∷ pulled n (suc count) f f.reports; way = subst (λ (rs : List Told). Way setup Good law n base Posts x (Calls n call f ∷ pulled n (suc count) f f.reports) (record { endpoint = record f { reports = rs }; book = h })) (drop_one count f.reports) way }
 
   -- all of them were heard, and what it read is lost
-  pub lost_stop : (Posts : Flow → List Item → Type 0) (call : Call) (x : Node) (f : EndpointValue) (begun : List (Flow × List ℕ)) (counts : CallCounts) → LastCall Posts call x f → Stop Posts x (with_halves close (with_halves (λ h. record h { begun = begun; counts = counts }) (hears (record x { endpoint = f }))))
+  pub lost_stop : (Posts : Flow → List Item → Type 0) (call : Call) (x : Node) (f : EndpointValue) (begun : List (Flow × List ℕ)) (counts : CallCounts) → LastCall Posts call x f → Stop Posts x (with_book close (with_book (λ h. record h { begun = begun; counts = counts }) (hears (record x { endpoint = f }))))
   lost_stop Posts call x f begun counts last =
-      let heard = hear_all f.reports x.halves in
+      let heard = hear_all f.reports x.book in
       let h = close (record heard { begun = begun; counts = counts }) in
-      let way = last_way setup Good law n base Posts x call f (length f.reports) h last.can (quiet_then x.halves heard h (all_heard_quiet f.reports x.halves) (lost_quiet heard begun counts)) refl last.takes last.reads in
-      record { steps = Calls n call f ∷ pulled n (length f.reports) f f.reports; way = subst (λ (rs : List Told). Way setup Good law n base Posts x (Calls n call f ∷ pulled n (length f.reports) f f.reports) (record { endpoint = record f { reports = rs }; halves = h })) (drop-length f.reports) way }
+      let way = last_way setup Good law n base Posts x call f (length f.reports) h last.can (quiet_then x.book heard h (all_heard_quiet f.reports x.book) (lost_quiet heard begun counts)) refl last.takes last.reads in
+      record { steps = Calls n call f ∷ pulled n (length f.reports) f f.reports; way = subst (λ (rs : List Told). Way setup Good law n base Posts x (Calls n call f ∷ pulled n (length f.reports) f f.reports) (record { endpoint = record f { reports = rs }; book = h })) (drop-length f.reports) way }
 
   -- A READ
   module _ (now : ℕ) (time : KeepsTime setup base n now) where
@@ -128,24 +128,24 @@ module _ (setup : Setup) (Good : Network → Type 0) (law : IsLawful setup Good)
         appended = b.frames;
       })
 
-      event_of_read : (st : Node) → EventStops now (Read f most_read) x st → Stop AreNone x (with_halves close st)
+      event_of_read : (st : Node) → EventStops now (Read f most_read) x st → Stop AreNone x (with_book close st)
       event_of_read st (breaks_off e b is) = stop_there AreNone x (record x { endpoint = e }) st is (broke_stop AreNone (CallRead now f most_read [] answer.NoMemory) x e (broken_read e b))
       event_of_read st (hears_part count is) =
           let r = read_call in
           stop_there AreNone x (heard_in_part count (record x { endpoint = after_event now (Read f most_read) x.endpoint })) st is (heard_stop AreNone (CallRead now f most_read r.buf r.found) x (after_event now (Read f most_read) x.endpoint) count r.last)
 
-      piece_of_read : (st : Node) (begun : List (Flow × List ℕ)) (counts : CallCounts) → st ≡ with_halves (λ h. record h { begun = begun; counts = counts }) (happens now (Read f most_read) x) → Stop AreNone x (with_halves close st)
+      piece_of_read : (st : Node) (begun : List (Flow × List ℕ)) (counts : CallCounts) → st ≡ with_book (λ h. record h { begun = begun; counts = counts }) (happens now (Read f most_read) x) → Stop AreNone x (with_book close st)
       piece_of_read st begun counts is =
           let r = read_call in
-          stop_there AreNone x (with_halves (λ h. record h { begun = begun; counts = counts }) (happens now (Read f most_read) x)) st is (lost_stop AreNone (CallRead now f most_read r.buf r.found) x (after_event now (Read f most_read) x.endpoint) begun counts r.last)
+          stop_there AreNone x (with_book (λ h. record h { begun = begun; counts = counts }) (happens now (Read f most_read) x)) st is (lost_stop AreNone (CallRead now f most_read r.buf r.found) x (after_event now (Read f most_read) x.endpoint) begun counts r.last)
 
-    read_stopped : (f : Flow) → IsFlow f → (x st : Node) → x.endpoint.spent ≡ false → ReadStops now f x st → Stop AreNone x (with_halves close st)
+    read_stopped : (f : Flow) → IsFlow f → (x st : Node) → x.endpoint.spent ≡ false → ReadStops now f x st → Stop AreNone x (with_book close st)
     read_stopped f flow x st unspent (not_read is) = stop_there AreNone x x st is (stop_here x unspent)
-    read_stopped f flow x st unspent (in_read may stops) = event_of_read f flow x unspent (and_parts (comes_in x f) (may_read f x.halves) may).0 st stops
-    read_stopped f flow x st unspent (at_piece may begun counts is) = piece_of_read f flow x unspent (and_parts (comes_in x f) (may_read f x.halves) may).0 st begun counts is
+    read_stopped f flow x st unspent (in_read may stops) = event_of_read f flow x unspent (and_parts (comes_in x f) (may_read f x.book) may).0 st stops
+    read_stopped f flow x st unspent (at_piece may begun counts is) = piece_of_read f flow x unspent (and_parts (comes_in x f) (may_read f x.book) may).0 st begun counts is
 
     -- THE END OF A TURN
-    pub end_stopped : (x st : Node) → All IsFlow x.halves.unread → x.endpoint.spent ≡ false → EndStops now x st → Stop AreNone x (with_halves close st)
+    pub end_stopped : (x st : Node) → All IsFlow x.book.unread → x.endpoint.spent ≡ false → EndStops now x st → Stop AreNone x (with_book close st)
     end_stopped x st all unspent (not_begun is) = stop_there AreNone x x st is (stop_here x unspent)
     end_stopped x st all unspent (at_flow done left f count is stops) =
         let parts = all_parts IsFlow done f left (subst (All IsFlow) is all) in
@@ -154,11 +154,11 @@ module _ (setup : Setup) (Good : Network → Type 0) (law : IsLawful setup Good)
         let first = flows setup n base now time done parts.0 x unspent in
         let second = times setup n base now time f parts.1 count y first.unspent in
         let both = goes_then setup n base x y z first second in
-        stop_then x z (with_halves close st) unspent both (read_stopped f parts.1 z st second.unspent stops)
+        stop_then x z (with_book close st) unspent both (read_stopped f parts.1 z st second.unspent stops)
     end_stopped x st all unspent (at_judging is) =
         let read = reads_all now x in
-        let r = flows setup n base now time x.halves.unread all x unspent in
-        let swept = sweep read.endpoint.state.host read.halves in
-        let z : Node = record read { halves = swept } in
-        let more : Goes setup n base read z = record { steps = []; moves = changes swept (sweep_quiet read.endpoint.state.host read.halves) rests; unspent = r.unspent } in
-        stop_there AreNone x z st is (stop_then x z (with_halves close z) unspent (goes_then setup n base x read z r more) (stop_here z r.unspent))
+        let r = flows setup n base now time x.book.unread all x unspent in
+        let swept = sweep read.endpoint.state.host read.book in
+        let z : Node = record read { book = swept } in
+        let more : Goes setup n base read z = record { steps = []; moves = changes swept (sweep_quiet read.endpoint.state.host read.book) rests; unspent = r.unspent } in
+        stop_there AreNone x z st is (stop_then x z (with_book close z) unspent (goes_then setup n base x read z r more) (stop_here z r.unspent))

@@ -23,10 +23,10 @@ use Rattle.dt_service_model.specs.declared.happenings.Happening.TheVariants.{Ans
 use Rattle.dt_service_model.specs.declared.names.CallNumber.{CallNumber}
 use Rattle.dt_service_model.specs.declared.ports.PortKind.{PortKind}
 use Rattle.dt_service_model.specs.declared.ports.PortKind.TheVariants.{Caller, Service}
-use Rattle.dt_service_model.specs.Halves.{Halves, counted_up, kind_in, most_octets}
+use Rattle.dt_service_model.specs.CallBook.{CallBook, counted_up, kind_in, longest_message}
 use Rattle.dt_service_model.specs.Hearing.{hear}
-use Rattle.dt_service_model.specs.Names.{call_number, token_with}
-use Rattle.dt_service_model.specs.Turns.{Node, hears, with_halves}
+use Rattle.dt_service_model.specs.Names.{from_u64, token_with}
+use Rattle.dt_service_model.specs.Turns.{Node, hears, with_book}
 use Rattle.dt_service_model.specs.Whole.{begun_of, grown, is_open, is_waiting_call, take_as, take_piece, take_reply_at, take_whole, without_token}
 use Rattle.dt_service_laws.specs.Histories.{Message, each_of, request_in}
 use Rattle.dt_service_laws.specs.Orders.{AreSomeOf, none}
@@ -50,58 +50,58 @@ unsure_requests g (Answered number answer ∷ told) all = absurd (All-head IsNoM
 
 -- what a message of octets says
 abbrev pub said : List ℕ → Message
-said m = record { number = call_number (number_in m); carried = carried_in m }
+said m = record { number = from_u64 (number_in m); carried = carried_in m }
 
 -- A WHOLE MESSAGE
-pub record WholeTells (f g : Flow) (o : Option (List ℕ)) (h k : Halves) : Type 0 where
+pub record WholeTells (f g : Flow) (o : Option (List ℕ)) (h k : CallBook) : Type 0 where
   pub begun : k.begun ≡ h.begun
   pub told : List Happening
   pub happenings : k.happenings ≡ h.happenings ++ told
   pub requests : AreSomeOf (each_of (request_in g) told) (cond (same_flow f g) (map said (listed o)) [])
 
-tells_none : (f g : Flow) (o : Option (List ℕ)) (h k : Halves) → k.begun ≡ h.begun → k.happenings ≡ h.happenings → WholeTells f g o h k
+tells_none : (f g : Flow) (o : Option (List ℕ)) (h k : CallBook) → k.begun ≡ h.begun → k.happenings ≡ h.happenings → WholeTells f g o h k
 tells_none f g o h k begun happenings = record { begun = begun; told = []; happenings = happenings ∙ sym (append-nil h.happenings); requests = none }
 
-reply_tells : (f g : Flow) (o : Option (List ℕ)) (place : Option ℕ) (n : CallNumber) (answer : List ℕ) (h : Halves) → WholeTells f g o h (take_reply_at place n answer h)
+reply_tells : (f g : Flow) (o : Option (List ℕ)) (place : Option ℕ) (n : CallNumber) (answer : List ℕ) (h : CallBook) → WholeTells f g o h (take_reply_at place n answer h)
 reply_tells f g o None n answer h = tells_none f g o h (take_reply_at None n answer h) refl refl
 reply_tells f g o (Some place) n answer h = record { begun = refl; told = Answered n answer ∷ []; happenings = refl; requests = none }
 
-one_request : (f g : Flow) (m : List ℕ) → AreSomeOf (each_of (request_in g) (Request (token_with f (call_number (number_in m))) (carried_in m) ∷ [])) (cond (same_flow f g) (map said (listed (Some m))) [])
+one_request : (f g : Flow) (m : List ℕ) → AreSomeOf (each_of (request_in g) (Request (token_with f (from_u64 (number_in m))) (carried_in m) ∷ [])) (cond (same_flow f g) (map said (listed (Some m))) [])
 one_request f g m = by_test (same_flow f g)
   where
     by_test : (b : Bool) → AreSomeOf (cond b (said m ∷ []) [] ++ []) (cond b (said m ∷ []) [])
     by_test true = all_of (said m ∷ [])
     by_test false = none
 
-request_tells : (f g : Flow) (m : List ℕ) (h : Halves) (b : Bool) → let token = token_with f (call_number (number_in m)) in
+request_tells : (f g : Flow) (m : List ℕ) (h : CallBook) (b : Bool) → let token = token_with f (from_u64 (number_in m)) in
     WholeTells f g (Some m) h (cond b (record h { tokens = without_token token h.tokens; counts = record (h.counts) { reused = counted_up h.counts.reused } }) (record h { tokens = h.tokens ++ token ∷ []; happenings = h.happenings ++ Request token (carried_in m) ∷ [] }))
 request_tells f g m h true = tells_none f g (Some m) h _ refl refl
-request_tells f g m h false = record { begun = refl; told = Request (token_with f (call_number (number_in m))) (carried_in m) ∷ []; happenings = refl; requests = one_request f g m }
+request_tells f g m h false = record { begun = refl; told = Request (token_with f (from_u64 (number_in m))) (carried_in m) ∷ []; happenings = refl; requests = one_request f g m }
 
-as_tells : (f g : Flow) (m : List ℕ) (h : Halves) (kind : Option PortKind) → WholeTells f g (Some m) h (take_as kind f (call_number (number_in m)) (carried_in m) h)
+as_tells : (f g : Flow) (m : List ℕ) (h : CallBook) (kind : Option PortKind) → WholeTells f g (Some m) h (take_as kind f (from_u64 (number_in m)) (carried_in m) h)
 as_tells f g m h None = tells_none f g (Some m) h h refl refl
-as_tells f g m h (Some Caller) = reply_tells f g (Some m) (position (is_waiting_call (reversed f) (call_number (number_in m))) h.calls) (call_number (number_in m)) (carried_in m) h
-as_tells f g m h (Some Service) = request_tells f g m h (is_open (token_with f (call_number (number_in m))) h)
+as_tells f g m h (Some Caller) = reply_tells f g (Some m) (position (is_waiting_call (reversed f) (from_u64 (number_in m))) h.calls) (from_u64 (number_in m)) (carried_in m) h
+as_tells f g m h (Some Service) = request_tells f g m h (is_open (token_with f (from_u64 (number_in m))) h)
 
-message_tells : (f g : Flow) (m : List ℕ) (h : Halves) (b : Bool) → WholeTells f g (Some m) h (cond b (take_as (kind_in f.to_port h.ports) f (call_number (number_in m)) (carried_in m) h) (record h { counts = record (h.counts) { short = counted_up h.counts.short } }))
+message_tells : (f g : Flow) (m : List ℕ) (h : CallBook) (b : Bool) → WholeTells f g (Some m) h (cond b (take_as (kind_in f.to_port h.ports) f (from_u64 (number_in m)) (carried_in m) h) (record h { counts = record (h.counts) { short = counted_up h.counts.short } }))
 message_tells f g m h true = as_tells f g m h (kind_in f.to_port h.ports)
 message_tells f g m h false = tells_none f g (Some m) h _ refl refl
 
-pub whole_tells : (f g : Flow) (o : Option (List ℕ)) (h : Halves) → WholeTells f g o h (take_whole f o h)
+pub whole_tells : (f g : Flow) (o : Option (List ℕ)) (h : CallBook) → WholeTells f g o h (take_whole f o h)
 whole_tells f g None h = tells_none f g None h h refl refl
 whole_tells f g (Some m) h = message_tells f g m h (has_number m)
 
 -- FROM ONE STATE TO ANOTHER, of the octets of a flow that are read in between
-pub record Tells (g : Flow) (b : Option (List ℕ)) (items : List Item) (h k : Halves) : Type 0 where
+pub record Tells (g : Flow) (b : Option (List ℕ)) (items : List Item) (h k : CallBook) : Type 0 where
   pub told : List Happening
   pub happenings : k.happenings ≡ h.happenings ++ told
   pub begun : Tracks g (begun_after b items) k.begun
   pub requests : AreSomeOf (each_of (request_in g) told) (map said (messages_from b items))
 
-pub quiet_tells : (g : Flow) (b : Option (List ℕ)) (h k : Halves) → IsQuiet h k → Tracks g b h.begun → Tells g b [] h k
+pub quiet_tells : (g : Flow) (b : Option (List ℕ)) (h k : CallBook) → IsQuiet h k → Tracks g b h.begun → Tells g b [] h k
 quiet_tells g b h k quiet tracks = record { told = quiet.told; happenings = quiet.happenings; begun = quiet.begun g b tracks; requests = subst (λ (ms : List Message). AreSomeOf ms []) (sym (unsure_requests g quiet.told quiet.unsure)) none }
 
-pub tells_then : (g : Flow) (b : Option (List ℕ)) (xs ys : List Item) (h k l : Halves) → Tells g b xs h k → Tells g (begun_after b xs) ys k l → Tells g b (xs ++ ys) h l
+pub tells_then : (g : Flow) (b : Option (List ℕ)) (xs ys : List Item) (h k l : CallBook) → Tells g b xs h k → Tells g (begun_after b xs) ys k l → Tells g b (xs ++ ys) h l
 tells_then g b xs ys h k l p q = record {
   told = p.told ++ q.told;
   happenings = q.happenings ∙ ap (λ (ms : List Happening). ms ++ q.told) p.happenings ∙ append_assoc h.happenings p.told q.told;
@@ -113,13 +113,13 @@ tells_then g b xs ys h k l p q = record {
 }
 
 -- A PIECE
-piece_tells : (f g : Flow) (b : Option (List ℕ)) (begin end run : Bool) (o : ℕ) (os : List ℕ) (h : Halves) → Tracks g b h.begun → (t : Bool) → same_flow f g ≡ t
+piece_tells : (f g : Flow) (b : Option (List ℕ)) (begin end run : Bool) (o : ℕ) (os : List ℕ) (h : CallBook) → Tracks g b h.begun → (t : Bool) → same_flow f g ≡ t
     → Tells g b (read_if t (marked (o ∷ os) begin end run)) h (take_piece f (piece_with begin end run (o ∷ os)) h)
 piece_tells f g b begin end run o os h tracks true is =
     let p = piece_with begin end run (o ∷ os) in
     let same : f ≡ g = flow_is f g is in
     let here : Tracks f b h.begun = subst (λ (k : Flow). Tracks k b h.begun) (sym same) tracks in
-    let whole = whole_within (Some most_octets) (begun_of f h) p in
+    let whole = whole_within (Some longest_message) (begun_of f h) p in
     let w = whole_tells f g whole (grown f (begun_of f h) p h) in
     let some : AreSomeOf (each_of (request_in g) w.told) (map said (listed whole)) = subst (λ (t : Bool). AreSomeOf (each_of (request_in g) w.told) (cond t (map said (listed whole)) [])) is w.requests in
     let grows : Tracks g (begun_with b p) (take_piece f p h).begun = subst (λ (es : List (Flow × List ℕ)). Tracks g (begun_with b p) es) (sym w.begun) (subst (λ (k : Flow). Tracks k (begun_with b p) (grown f (begun_of f h) p h).begun) same (piece_tracks f b p h here)) in
@@ -129,11 +129,11 @@ piece_tells f g b begin end run o os h tracks true is =
       begun = subst (λ (c : Option (List ℕ)). Tracks g c (take_piece f p h).begun) (sym (piece_begun b o os begin end run)) grows;
       requests =
           subst (λ (ms : List (List ℕ)). AreSomeOf (each_of (request_in g) w.told) (map said ms)) (sym (piece_messages b o os begin end run))
-          (some_through some (mapped said (whole_stays (Some most_octets) (begun_of f h) b p (begun_same f b h here))));
+          (some_through some (mapped said (whole_stays (Some longest_message) (begun_of f h) b p (begun_same f b h here))));
     }
 piece_tells f g b begin end run o os h tracks false is =
     let p = piece_with begin end run (o ∷ os) in
-    let whole = whole_within (Some most_octets) (begun_of f h) p in
+    let whole = whole_within (Some longest_message) (begun_of f h) p in
     let w = whole_tells f g whole (grown f (begun_of f h) p h) in
     record {
       told = w.told;
@@ -143,7 +143,7 @@ piece_tells f g b begin end run o os h tracks false is =
     }
 
 -- by the read that answered it
-pub read_tells : (f g : Flow) (b : Option (List ℕ)) (p : Piece) (o : ℕ) (os : List ℕ) (h : Halves) → p.octets ≡ o ∷ os → Tracks g b h.begun
+pub read_tells : (f g : Flow) (b : Option (List ℕ)) (p : Piece) (o : ℕ) (os : List ℕ) (h : CallBook) → p.octets ≡ o ∷ os → Tracks g b h.begun
     → Tells g b (read_if (same_flow f g) (items_read (answer.Read (length p.octets) p.run p.begin p.end) p.octets)) h (take_piece f p h)
 read_tells f g b p o os h is tracks =
     let all : take (length p.octets) p.octets ≡ o ∷ os = take-length p.octets ∙ is in
@@ -165,22 +165,22 @@ module _ (setup : Setup) (n : ℕ) where
   pub behind_read : (g : Flow) (e : EndpointValue) (rs : List Told) (steps : List Step) → all_read g (pulls setup n e rs ++ steps) ≡ all_read g steps
   behind_read g e rs steps = read_append g (pulls setup n e rs) steps ∙ ap (λ (is : List Item). is ++ all_read g steps) (pulls_read_none g e rs)
 
-  pub moves_tell : (base : Network) (g : Flow) (b : Option (List ℕ)) (x y : Node) (steps : List Step) → Moves setup n base x steps y → Tracks g b x.halves.begun → Tells g b (all_read g steps) x.halves y.halves
-  moves_tell base g b x y steps (rests {x = z}) tracks = record { told = []; happenings = sym (append-nil z.halves.happenings); begun = tracks; requests = none }
+  pub moves_tell : (base : Network) (g : Flow) (b : Option (List ℕ)) (x y : Node) (steps : List Step) → Moves setup n base x steps y → Tracks g b x.book.begun → Tells g b (all_read g steps) x.book y.book
+  moves_tell base g b x y steps (rests {x = z}) tracks = record { told = []; happenings = sym (append-nil z.book.happenings); begun = tracks; requests = none }
   moves_tell base g b x y steps (changes {x = z} {y = u} {steps = ss} h quiet more) tracks =
-      let first = quiet_tells g b z.halves h quiet tracks in
-      tells_then g b [] (all_read g ss) z.halves h u.halves first (moves_tell base g b (record z { halves = h }) u ss more first.begun)
+      let first = quiet_tells g b z.book h quiet tracks in
+      tells_then g b [] (all_read g ss) z.book h u.book first (moves_tell base g b (record z { book = h }) u ss more first.begun)
   moves_tell base g b x y steps (calls {x = z} {y = u} {steps = ss} call f may nothing taken more) tracks =
-      let heard = fold hear z.halves f.reports in
-      let first = quiet_tells g b z.halves heard (all_heard_quiet f.reports z.halves) tracks in
+      let heard = fold hear z.book f.reports in
+      let first = quiet_tells g b z.book heard (all_heard_quiet f.reports z.book) tracks in
       let rest = moves_tell base g b (hears (record z { endpoint = f })) u ss more first.begun in
-      subst (λ (is : List Item). Tells g b is z.halves u.halves) (sym (ap (λ (is : List Item). is ++ all_read g (pulls setup n f f.reports ++ ss)) (nothing g) ∙ behind_read g f f.reports ss))
-      (tells_then g b [] (all_read g ss) z.halves heard u.halves first rest)
+      subst (λ (is : List Item). Tells g b is z.book u.book) (sym (ap (λ (is : List Item). is ++ all_read g (pulls setup n f f.reports ++ ss)) (nothing g) ∙ behind_read g f f.reports ss))
+      (tells_then g b [] (all_read g ss) z.book heard u.book first rest)
   moves_tell base g b x y steps (reads {x = z} {y = u} {steps = ss} now k p o os f comes some may more) tracks =
-      let heard = fold hear z.halves f.reports in
-      let first = quiet_tells g b z.halves heard (all_heard_quiet f.reports z.halves) tracks in
+      let heard = fold hear z.book f.reports in
+      let first = quiet_tells g b z.book heard (all_heard_quiet f.reports z.book) tracks in
       let items = read_if (same_flow k g) (items_read (answer.Read (length p.octets) p.run p.begin p.end) p.octets) in
       let second = read_tells k g b p o os heard some first.begun in
-      let rest = moves_tell base g (begun_after b items) (with_halves (take_piece k p) (hears (record z { endpoint = f }))) u ss more second.begun in
-      subst (λ (is : List Item). Tells g b (items ++ is) z.halves u.halves) (sym (behind_read g f f.reports ss))
-      (tells_then g b items (all_read g ss) z.halves (take_piece k p heard) u.halves (tells_then g b [] items z.halves heard (take_piece k p heard) first second) rest)
+      let rest = moves_tell base g (begun_after b items) (with_book (take_piece k p) (hears (record z { endpoint = f }))) u ss more second.begun in
+      subst (λ (is : List Item). Tells g b (items ++ is) z.book u.book) (sym (behind_read g f f.reports ss))
+      (tells_then g b items (all_read g ss) z.book (take_piece k p heard) u.book (tells_then g b [] items z.book heard (take_piece k p heard) first second) rest)

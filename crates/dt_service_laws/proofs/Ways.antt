@@ -12,9 +12,9 @@ use Rattle.dt_network.specs.Network.{Network, Setup}
 use Rattle.dt_network.specs.Octets.{AreTaken, Takes, all_read, read_by}
 use Rattle.dt_network.specs.Steps.{Call, Calls, Does, PullReport, Step, network_by}
 use Rattle.dt_service_model.specs.declared.happenings.Happening.{Happening}
-use Rattle.dt_service_model.specs.Halves.{Halves}
+use Rattle.dt_service_model.specs.CallBook.{CallBook}
 use Rattle.dt_service_model.specs.Hearing.{hear}
-use Rattle.dt_service_model.specs.Turns.{Node, hears, with_halves}
+use Rattle.dt_service_model.specs.Turns.{Node, hears, with_book}
 use Rattle.dt_service_model.specs.Whole.{take_piece}
 use Rattle.dt_service_laws.specs.Histories.{Message, answer_in, count_of, each_of, request_in}
 use Rattle.dt_service_laws.specs.Orders.{AreSomeOf, none}
@@ -32,7 +32,7 @@ use Rattle.dt_service_laws.proofs.Telling.{Tells, each_append, moves_tell, read_
 abbrev pub AreNone : Flow → List Item → Type 0
 AreNone g taken = taken ≡ []
 
-elsewhere_then : (g : Flow) (xs ys : List Step) (h k l : Halves) → IsElsewhere g xs h k → IsElsewhere g ys k l → IsElsewhere g (xs ++ ys) h l
+elsewhere_then : (g : Flow) (xs ys : List Step) (h k l : CallBook) → IsElsewhere g xs h k → IsElsewhere g ys k l → IsElsewhere g (xs ++ ys) h l
 elsewhere_then g xs ys h k l p q = record {
   none = read_append g xs ys ∙ ap (λ (is : List Item). is ++ all_read g ys) p.none ∙ q.none;
   told = p.told ++ q.told;
@@ -74,23 +74,23 @@ pulled_takes n (suc count) g e [] = takes_nothing g
 pulled_takes n (suc count) g e (r ∷ rs) = takes_more g (Calls n PullReport (record e { reports = rs })) (pulled n count e rs) [] [] (λ first h. h) (pulled_takes n count g e rs)
 
 module _ (setup : Setup) (n : ℕ) where
-  moves_wait : (base : Network) (x y : Node) (steps : List Step) → Moves setup n base x steps y → AreKeptFrom x.halves.calls y.halves.calls
-  moves_wait base x y steps (rests {x = z}) = kept_itself z.halves.calls
-  moves_wait base x y steps (changes {x = z} {y = u} {steps = ss} h quiet more) = kept_through z.halves.calls h.calls u.halves.calls quiet.waits (moves_wait base (record z { halves = h }) u ss more)
+  moves_wait : (base : Network) (x y : Node) (steps : List Step) → Moves setup n base x steps y → AreKeptFrom x.book.calls y.book.calls
+  moves_wait base x y steps (rests {x = z}) = kept_itself z.book.calls
+  moves_wait base x y steps (changes {x = z} {y = u} {steps = ss} h quiet more) = kept_through z.book.calls h.calls u.book.calls quiet.waits (moves_wait base (record z { book = h }) u ss more)
   moves_wait base x y steps (calls {x = z} {y = u} {steps = ss} call f may nothing taken more) =
-      kept_through z.halves.calls (fold hear z.halves f.reports).calls u.halves.calls (all_heard_quiet f.reports z.halves).waits (moves_wait base (hears (record z { endpoint = f })) u ss more)
+      kept_through z.book.calls (fold hear z.book f.reports).calls u.book.calls (all_heard_quiet f.reports z.book).waits (moves_wait base (hears (record z { endpoint = f })) u ss more)
   moves_wait base x y steps (reads {x = z} {y = u} {steps = ss} now k p o os f comes some may more) =
-      let heard = fold hear z.halves f.reports in
-      kept_through z.halves.calls heard.calls u.halves.calls (all_heard_quiet f.reports z.halves).waits (kept_through heard.calls (take_piece k p heard).calls u.halves.calls (piece_keeps k p heard).waits (moves_wait base (with_halves (take_piece k p) (hears (record z { endpoint = f }))) u ss more))
+      let heard = fold hear z.book f.reports in
+      kept_through z.book.calls heard.calls u.book.calls (all_heard_quiet f.reports z.book).waits (kept_through heard.calls (take_piece k p heard).calls u.book.calls (piece_keeps k p heard).waits (moves_wait base (with_book (take_piece k p) (hears (record z { endpoint = f }))) u ss more))
 
 module _ (setup : Setup) (Good : Network → Type 0) (law : IsLawful setup Good) (n : ℕ) (base : Network) where
   pub record Way (Posts : Flow → List Item → Type 0) (x : Node) (steps : List Step) (y : Node) : Type 0 where
     pub runs : (m : Network) → IsLater base m → IsAt n m x.endpoint → Runs setup n x.endpoint y.endpoint steps m
     pub takes : (g : Flow) (taken : List Item) → AreTaken g steps taken → Posts g taken
-    pub tells : (g : Flow) (b : Option (List ℕ)) → Tracks g b x.halves.begun → Tells g b (all_read g steps) x.halves y.halves
-    pub answers : (g : Flow) (b : Option (List ℕ)) → Tracks g b x.halves.begun → Answers g b (all_read g steps) x.halves y.halves
-    pub waits : AreKeptFrom x.halves.calls y.halves.calls
-    pub elsewhere : (g : Flow) → (n == g.to.0) ≡ false → (m : Network) → IsLater base m → IsAt n m x.endpoint → Good m → IsElsewhere g steps x.halves y.halves
+    pub tells : (g : Flow) (b : Option (List ℕ)) → Tracks g b x.book.begun → Tells g b (all_read g steps) x.book y.book
+    pub answers : (g : Flow) (b : Option (List ℕ)) → Tracks g b x.book.begun → Answers g b (all_read g steps) x.book y.book
+    pub waits : AreKeptFrom x.book.calls y.book.calls
+    pub elsewhere : (g : Flow) → (n == g.to.0) ≡ false → (m : Network) → IsLater base m → IsAt n m x.endpoint → Good m → IsElsewhere g steps x.book y.book
 
   -- the moves of an endpoint that goes on are one
   pub moves_way : (x y : Node) (steps : List Step) → Moves setup n base x steps y → x.endpoint.spent ≡ false → Way AreNone x steps y
@@ -115,13 +115,13 @@ module _ (setup : Setup) (Good : Network → Type 0) (law : IsLawful setup Good)
         takes = λ g. takes_start g xs ys (Posts g) (p.takes g) (q.takes g);
         tells = λ g b tracks.
             let first = p.tells g b tracks in
-            subst (λ (is : List Item). Tells g b is x.halves z.halves) (sym (read_append g xs ys)) (tells_then g b (all_read g xs) (all_read g ys) x.halves y.halves z.halves first (q.tells g (begun_after b (all_read g xs)) first.begun));
+            subst (λ (is : List Item). Tells g b is x.book z.book) (sym (read_append g xs ys)) (tells_then g b (all_read g xs) (all_read g ys) x.book y.book z.book first (q.tells g (begun_after b (all_read g xs)) first.begun));
         answers = λ g b tracks.
-            subst (λ (is : List Item). Answers g b is x.halves z.halves) (sym (read_append g xs ys)) (answers_then g b (all_read g xs) (all_read g ys) x.halves y.halves z.halves (p.answers g b tracks) (q.answers g (begun_after b (all_read g xs)) (p.tells g b tracks).begun));
-        waits = kept_through x.halves.calls y.halves.calls z.halves.calls p.waits q.waits;
+            subst (λ (is : List Item). Answers g b is x.book z.book) (sym (read_append g xs ys)) (answers_then g b (all_read g xs) (all_read g ys) x.book y.book z.book (p.answers g b tracks) (q.answers g (begun_after b (all_read g xs)) (p.tells g b tracks).begun));
+        waits = kept_through x.book.calls y.book.calls z.book.calls p.waits q.waits;
         elsewhere = λ g other m on there good.
             let r = p.runs m on there in
-            elsewhere_then g xs ys x.halves y.halves z.halves (p.elsewhere g other m on there good) (q.elsewhere g other (network_by xs m) (later m on r) (at m r) (law.on m xs good r.are r.keep));
+            elsewhere_then g xs ys x.book y.book z.book (p.elsewhere g other m on there good) (q.elsewhere g other (network_by xs m) (later m on r) (at m r) (law.on m xs good r.are r.keep));
       }
 
   -- A CALL that may be made, whatever becomes of its endpoint
@@ -132,9 +132,9 @@ module _ (setup : Setup) (Good : Network → Type 0) (law : IsLawful setup Good)
     pub appended : f.frames ≡ e.frames ++ frames
 
   -- THE LAST CALL before a node closes: so many of its reports are pulled. What it read is lost
-  pub last_way : (Posts : Flow → List Item → Type 0) (x : Node) (call : Call) (f : EndpointValue) (count : ℕ) (h : Halves) → CanCall call x.endpoint f → IsQuiet x.halves h → h.begun ≡ [] → ((g : Flow) (taken : List Item) → Takes g call taken → Posts g taken)
+  pub last_way : (Posts : Flow → List Item → Type 0) (x : Node) (call : Call) (f : EndpointValue) (count : ℕ) (h : CallBook) → CanCall call x.endpoint f → IsQuiet x.book h → h.begun ≡ [] → ((g : Flow) (taken : List Item) → Takes g call taken → Posts g taken)
       → ((g : Flow) → (n == g.to.0) ≡ false → (m : Network) → IsAt n m x.endpoint → Good m → read_by g call ≡ [])
-      → Way Posts x (Calls n call f ∷ pulled n count f f.reports) (record { endpoint = record f { reports = drop count f.reports }; halves = h })
+      → Way Posts x (Calls n call f ∷ pulled n count f f.reports) (record { endpoint = record f { reports = drop count f.reports }; book = h })
   last_way Posts x call f count h can quiet begun takes_it reads_none =
       let rest = pulled n count f f.reports in
       record {

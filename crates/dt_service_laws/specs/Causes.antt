@@ -15,16 +15,16 @@ use Rattle.dt_service_model.specs.declared.happenings.Happening.TheVariants.{Ans
 use Rattle.dt_service_model.specs.declared.names.CallNumber.{CallNumber}
 use Rattle.dt_service_model.specs.Asked.{message_event, with_call}
 use Rattle.dt_service_model.specs.Ends.{judge}
-use Rattle.dt_service_model.specs.Halves.{Halves}
+use Rattle.dt_service_model.specs.CallBook.{CallBook}
 use Rattle.dt_service_model.specs.Hearing.{GivesUp, hear_all, heard}
-use Rattle.dt_service_model.specs.Names.{number_of}
-use Rattle.dt_service_model.specs.Turns.{Node, happens, most_read, with_halves}
+use Rattle.dt_service_model.specs.Names.{to_u64}
+use Rattle.dt_service_model.specs.Turns.{Node, happens, most_read, with_book}
 use Rattle.dt_service_model.specs.Whole.{take_piece}
 use Rattle.dt_service_laws.specs.Fates.{told_in}
 use Rattle.dt_service_laws.specs.Services.{Arrives, Closes, Deed, Does, FindsNoMemory, Forgets, GivesKind, GivesReply, MakesCall, OpensAgain, Passes, PullsFrame, Raises, Services, TakesHappening, Ticks, Turn, node_after, node_at, services_after}
 
 -- calls stay, and what was told
-pub record LeavesCalls (h k : Halves) : Type 0 where
+pub record LeavesCalls (h k : CallBook) : Type 0 where
   pub calls : k.calls ≡ h.calls
   pub happenings : k.happenings ≡ h.happenings
   pub closed : k.closed ≡ h.closed
@@ -46,8 +46,8 @@ moment_told (FindsNoMemory deed after) = moment_told deed
 
 -- THE EVENT of its endpoint that is done. The message of a call is its number and then its octets. A turn that found no memory has none of its own here: it judges no call
 abbrev pub IsEventOf : Deed → Event (Unit {0}) → Type 0
-IsEventOf (MakesCall now f payload patience) event = (n : CallNumber) × (event ≡ message_event f (message_of (number_of n) payload))
-IsEventOf (GivesReply now token payload) event = event ≡ message_event (reversed token.flow) (message_of (number_of token.number) payload)
+IsEventOf (MakesCall now f payload patience) event = (n : CallNumber) × (event ≡ message_event f (message_of (to_u64 n) payload))
+IsEventOf (GivesReply now token payload) event = event ≡ message_event (reversed token.flow) (message_of (to_u64 token.number) payload)
 IsEventOf (Ticks now) event = event ≡ Tick
 IsEventOf (Arrives now link datagram waited) event = event ≡ arrive_event link datagram waited
 IsEventOf (Forgets now token) event = ⊥
@@ -67,16 +67,16 @@ pub data IsOfTurn (deed : Deed) : Event (Unit {0}) → Type 0 where
 -- WITHIN A TURN, at its moment, a node makes the call that is asked for or none, has the turn's events, of which it hears, takes pieces, and changes what is no call
 pub data Within (deed : Deed) : Node → Node → Type 0 where
   itself : {x : Node} → Within deed x x
-  makes : {x y : Node} {now patience : ℕ} {payload : List ℕ} (f : Flow) (count deadline : ℕ) → deed ≡ MakesCall now f payload patience → Within deed (with_halves (with_call f count deadline) x) y → Within deed x y
+  makes : {x y : Node} {now patience : ℕ} {payload : List ℕ} (f : Flow) (count deadline : ℕ) → deed ≡ MakesCall now f payload patience → Within deed (with_book (with_call f count deadline) x) y → Within deed x y
   hears : {x y : Node} (event : Event (Unit {0})) → IsOfTurn deed event → Within deed (happens (moment_told deed) event x) y → Within deed x y
-  takes : {x y : Node} (f : Flow) (piece : Piece) → Within deed (with_halves (take_piece f piece) x) y → Within deed x y
-  changes : {x y : Node} (h : Halves) → LeavesCalls x.halves h → Within deed (record x { halves = h }) y → Within deed x y
+  takes : {x y : Node} (f : Flow) (piece : Piece) → Within deed (with_book (take_piece f piece) x) y → Within deed x y
+  changes : {x y : Node} (h : CallBook) → LeavesCalls x.book h → Within deed (record x { book = h }) y → Within deed x y
 
 -- A TURN ENDS: the node that it came to within it judges its calls
 pub record EndsAt (deed : Deed) (x y : Node) : Type 0 where
   pub judges : Node
   pub within : Within deed x judges
-  pub is : y ≡ with_halves (judge (moment_of (moment_told deed) judges.endpoint)) judges
+  pub is : y ≡ with_book (judge (moment_of (moment_told deed) judges.endpoint)) judges
 
 -- THE OCTETS OF A FLOW WITHOUT A FATE, in their order, each by the number of its call
 abbrev pub owners : Flow → List OpenCall → List CallNumber
@@ -97,13 +97,13 @@ pub record WasGivenUp (deed : Deed) (x y : Node) (number : CallNumber) : Type 0 
   pub flow : Flow
   pub count : ℕ
   pub gives_up : heard told ≡ GivesUp flow count
-  pub among : Contains (take count (owners flow (hear_all first at.halves).calls)) number
+  pub among : Contains (take count (owners flow (hear_all first at.book).calls)) number
   pub after : Within deed (happens (moment_told deed) event at) y
 
 -- PATIENCE IS OVER: the call waits still, and its deadline has come
 pub record IsOver (now : ℕ) (x : Node) (number : CallNumber) : Type 0 where
   pub call : OpenCall
-  pub there : Contains x.halves.calls call
+  pub there : Contains x.book.calls call
   pub waits : call.waits ≡ true
   pub number_is : call.number ≡ number
   pub deadline : call.deadline ≤ moment_of now x.endpoint
@@ -115,19 +115,19 @@ HasCause deed x y (Answered number answer) = Unit {0}
 HasCause deed x y (ReplyUncertain flow) = Unit {0}
 HasCause deed x y (Unsure number cause.GivenUp) = (end : EndsAt deed x y) × WasGivenUp deed x end.judges number
 HasCause deed x y (Unsure number cause.Patience) = (end : EndsAt deed x y) × IsOver (moment_told deed) end.judges number
-HasCause deed x y (Unsure number cause.Closed) = (x.halves.closed ≡ false) × (y.halves.closed ≡ true)
+HasCause deed x y (Unsure number cause.Closed) = (x.book.closed ≡ false) × (y.book.closed ≡ true)
 
 -- a call of a number ended before calls were judged, or the turn tells it unsure as an octet of its request was given up
 pub record EndsInTurn (judges : Node) (number : CallNumber) (told : List Happening) : Type 0 where
   pub call : OpenCall
-  pub there : Contains judges.halves.calls call
+  pub there : Contains judges.book.calls call
   pub number_is : call.number ≡ number
   pub tells : call.waits ≡ true → Contains told (Unsure number cause.GivenUp)
 
 -- WHAT A TURN TELLS has its cause; and where in a turn of a node that isn't closed an octet of a request is given up, its call ends
 pub record TellsCauses (deed : Deed) (x y : Node) (told : List Happening) : Type 0 where
   pub causes : All (HasCause deed x y) told
-  pub given_up : x.halves.closed ≡ false → (end : EndsAt deed x y) (number : CallNumber) → WasGivenUp deed x end.judges number → EndsInTurn end.judges number told
+  pub given_up : x.book.closed ≡ false → (end : EndsAt deed x y) (number : CallNumber) → WasGivenUp deed x end.judges number → EndsInTurn end.judges number told
 
 abbrev pub TellsAt : Setup → (node : ℕ) → Deed → Option Node → Type 0
 TellsAt setup n deed None = Unit {0}

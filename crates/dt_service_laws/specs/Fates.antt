@@ -6,14 +6,14 @@ use Rattle.dt_service_model.specs.declared.calls.OpenCall.{OpenCall}
 use Rattle.dt_service_model.specs.declared.happenings.Happening.{Happening}
 use Rattle.dt_service_model.specs.Asked.{call, call_refusals, next_number}
 use Rattle.dt_service_model.specs.Ends.{told_by}
-use Rattle.dt_service_model.specs.Halves.{Halves}
+use Rattle.dt_service_model.specs.CallBook.{CallBook}
 use Rattle.dt_service_model.specs.Turns.{Node}
 use Rattle.dt_service_laws.specs.Histories.{Message, asked_as, at_the, in_turns, made_as}
 use Rattle.dt_service_laws.specs.Services.{Arrives, Closes, Deed, FindsNoMemory, Forgets, GivesKind, GivesReply, MakesCall, OpensAgain, PullsFrame, Raises, Services, TakesHappening, Ticks, Turn, node_after}
 
 -- THE CALLS that are made at a node, on whatever flow. One that found no memory may have been made
 abbrev pub all_asked : Deed → Node → List Message
-all_asked (MakesCall now f payload patience) x = asked_as (first_refusal (call_refusals x f payload patience)) (next_number x.halves) payload
+all_asked (MakesCall now f payload patience) x = asked_as (first_refusal (call_refusals x f payload patience)) (next_number x.book) payload
 all_asked (GivesKind port kind) x = []
 all_asked (GivesReply now token payload) x = []
 all_asked (Forgets now token) x = []
@@ -45,18 +45,18 @@ calls_at c setup turns s = in_turns (at_the c (λ n. all_by)) setup turns s
 
 -- WHAT A TURN TELLS: all that its node has told after what it had told before. Where it closes these are the ends of its calls
 abbrev pub told_in : Setup → (node : ℕ) → Deed → Node → List Happening
-told_in setup n deed x = drop (length (told_by x.halves)) (told_by (node_after setup n deed x).halves)
+told_in setup n deed x = drop (length (told_by x.book)) (told_by (node_after setup n deed x).book)
 
 abbrev pub told_at : ℕ → Setup → List Turn → Services → List Happening
 told_at c setup turns s = in_turns (at_the c (told_in setup)) setup turns s
 
 -- the calls of which some may wait. At a node that is closed none does: it has told the end of each
-abbrev pub still_in : Halves → List OpenCall
+abbrev pub still_in : CallBook → List OpenCall
 still_in h = if h.closed then [] else h.calls
 
 -- THE CALLS THAT NOBODY IS TOLD OF: their program died, and its node opened again
 abbrev pub lost_by : Deed → Node → List OpenCall
-lost_by (OpensAgain again options most life) x = still_in x.halves
+lost_by (OpensAgain again options most life) x = still_in x.book
 lost_by (GivesKind port kind) x = []
 lost_by (MakesCall now f payload patience) x = []
 lost_by (GivesReply now token payload) x = []

@@ -15,7 +15,7 @@ use Rattle.dt_service_model.specs.declared.happenings.Happening.TheVariants.{Ans
 use Rattle.dt_service_model.specs.declared.names.CallNumber.{CallNumber}
 use Rattle.dt_service_model.specs.declared.names.Token.{Token}
 use Rattle.dt_service_model.specs.Asked.{call, call_refusals, is_life_in_use, next_number, reply, reply_refusals}
-use Rattle.dt_service_model.specs.Names.{number_of, same_number}
+use Rattle.dt_service_model.specs.Names.{to_u64, same_number}
 use Rattle.dt_service_model.specs.Turns.{Node}
 use Rattle.dt_service_laws.specs.Services.{Arrives, Closes, Deed, Does, FindsNoMemory, Forgets, GivesKind, GivesReply, MakesCall, OpensAgain, Passes, PullsFrame, Raises, Services, TakesHappening, Ticks, Turn, node_after, node_at, services_after, told_between}
 
@@ -26,7 +26,7 @@ pub record Message : Type 0 where
 
 -- its octets
 abbrev pub spelled : Message → List ℕ
-spelled m = message_of (number_of m.number) m.carried
+spelled m = message_of (to_u64 m.number) m.carried
 
 -- what isn't refused
 abbrev pub asked_as : {A : Type 0} → Option A → CallNumber → List ℕ → List Message
@@ -41,7 +41,7 @@ made_as (made.Refused why) payload = []
 made_as made.NoMemory payload = []
 
 abbrev pub call_asked : Flow → Deed → Node → List Message
-call_asked f (MakesCall now g payload patience) x = if same_flow g f then asked_as (first_refusal (call_refusals x g payload patience)) (next_number x.halves) payload else []
+call_asked f (MakesCall now g payload patience) x = if same_flow g f then asked_as (first_refusal (call_refusals x g payload patience)) (next_number x.book) payload else []
 call_asked f (GivesKind port kind) x = []
 call_asked f (GivesReply now token payload) x = []
 call_asked f (Forgets now token) x = []
@@ -155,7 +155,7 @@ answers_at client setup turns s = in_turns (at_the client (told_by answer_in set
 
 -- THE LIVES of a node after its first one, each as it begins
 abbrev pub life_by : Deed → Node → List ℕ
-life_by (Raises life) x = if is_life_in_use life x.halves then [] else life ∷ []
+life_by (Raises life) x = if is_life_in_use life x.book then [] else life ∷ []
 life_by (OpensAgain again options most life) x = life ∷ []
 life_by (GivesKind port kind) x = []
 life_by (MakesCall now g payload patience) x = []

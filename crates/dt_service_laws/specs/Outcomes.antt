@@ -17,11 +17,11 @@ use Rattle.dt_service_laws.specs.Tie.{AreSentOf, TakesCallsAlone}
 pub record AreAccounted (setup : Setup) (n : ℕ) (turns : List Turn) (s : Services) : Type 0 where
   pub made : List Message
   pub are : AreSentOf (at_the n (λ m. all_by)) setup turns s made
-  pub accounts : (name : CallNumber) → count_of name made ≡ ends_in name (told_at n setup turns s) + waits_in name (still_in ((services_by setup turns s).halves n)) + waits_in name (lost_at n setup turns s)
+  pub accounts : (name : CallNumber) → count_of name made ≡ ends_in name (told_at n setup turns s) + waits_in name (still_in ((services_by setup turns s).book n)) + waits_in name (lost_at n setup turns s)
 
 -- no call that waits at a node has its deadline after it. At a node that is closed each has its end
 abbrev pub AreAllPatient : Services → Type 0
-AreAllPatient s = (n : ℕ) (e : EndpointValue) → look ◌==◌ n s.network.endpoints ≡ Some e → (s.halves n).closed ≡ false → All (IsPatient e.latest) (s.halves n).calls
+AreAllPatient s = (n : ℕ) (e : EndpointValue) → look ◌==◌ n s.network.endpoints ≡ Some e → (s.book n).closed ≡ false → All (IsPatient e.latest) (s.book n).calls
 
 -- THE FATE OF A CALL of a flow from a caller to a service, by its name
 pub record HasOneFate (setup : Setup) (f : Flow) (turns : List Turn) (s : Services) (name : CallNumber) : Type 0 where

@@ -11,8 +11,8 @@ use Rattle.dt_service_model.specs.declared.ports.PortKind.{PortKind}
 use Rattle.dt_service_model.specs.declared.ports.Most.{Most}
 use Rattle.dt_service_model.specs.Asked.{arrive, call, forget, raised, reply, tick, with_kind}
 use Rattle.dt_service_model.specs.Ends.{close, next}
-use Rattle.dt_service_model.specs.Halves.{Halves, new_halves}
-use Rattle.dt_service_model.specs.Turns.{Node, with_halves}
+use Rattle.dt_service_model.specs.CallBook.{CallBook, new_book}
+use Rattle.dt_service_model.specs.Turns.{Node, with_book}
 
 -- WHAT A PROGRAM ASKS of its node, and that it dies and its node opens again: with the moment of that, its links and routes, its limits and its life. What is asked may find no memory: then it is told what its node is after that
 pub data Deed : Type 0 where
@@ -31,33 +31,33 @@ pub data Deed : Type 0 where
 
 -- what the definitions of a node make of it
 abbrev pub node_after : Setup → (node : ℕ) → Deed → Node → Node
-node_after setup n (GivesKind port kind) x = with_halves (with_kind port kind) x
+node_after setup n (GivesKind port kind) x = with_book (with_kind port kind) x
 node_after setup n (MakesCall now f payload patience) x = (call now f payload patience x).1
 node_after setup n (GivesReply now token payload) x = (reply now token payload x).1
 node_after setup n (Forgets now token) x = (forget now token x).1
 node_after setup n (Ticks now) x = (tick now x).1
 node_after setup n (Arrives now link datagram waited) x = (arrive now link datagram waited x).1
-node_after setup n (Raises life) x = with_halves (raised life) x
-node_after setup n TakesHappening x = with_halves (λ h. (next h).1) x
+node_after setup n (Raises life) x = with_book (raised life) x
+node_after setup n TakesHappening x = with_book (λ h. (next h).1) x
 node_after setup n PullsFrame x = record x { endpoint = record (x.endpoint) { frames = drop 1 x.endpoint.frames } }
-node_after setup n Closes x = with_halves close x
-node_after setup n (OpensAgain again options most life) x = record { endpoint = opened_with setup n again options; halves = new_halves most life }
+node_after setup n Closes x = with_book close x
+node_after setup n (OpensAgain again options most life) x = record { endpoint = opened_with setup n again options; book = new_book most life }
 node_after setup n (FindsNoMemory deed after) x = after
 
 -- THE NETWORK, and what each node has beside its endpoint
 pub record Services : Type 0 where
   pub network : Network
-  pub halves : ℕ → Halves
+  pub book : ℕ → CallBook
 
 abbrev pub node_with : ℕ → Services → EndpointValue → Node
-node_with n s e = record { endpoint = e; halves = s.halves n }
+node_with n s e = record { endpoint = e; book = s.book n }
 
 abbrev pub node_at : ℕ → Services → Option Node
 node_at n s = option_map (node_with n s) (look ◌==◌ n s.network.endpoints)
 
 -- Each node of a setup has opened for the first time, with its limits and its first life
 abbrev pub new_services : Setup → (most : ℕ → Most) → (life : ℕ → ℕ) → Services
-new_services setup most life = record { network = new_network setup; halves = λ n. new_halves (most n) (life n) }
+new_services setup most life = record { network = new_network setup; book = λ n. new_book (most n) (life n) }
 
 -- A TURN: so many milliseconds pass, or a program does something at its node
 pub data Turn : Type 0 where
@@ -66,14 +66,14 @@ pub data Turn : Type 0 where
 
 -- a node becomes another. Its endpoint is then as calls of it leave it
 abbrev pub with_node : ℕ → Services → Node → Services
-with_node n s x = record { network = network_after (Calls n PullFrame x.endpoint) s.network; halves = λ m. cond (n == m) x.halves (s.halves m) }
+with_node n s x = record { network = network_after (Calls n PullFrame x.endpoint) s.network; book = λ m. cond (n == m) x.book (s.book m) }
 
 abbrev pub node_does : Setup → ℕ → Deed → Services → Option Node → Services
 node_does setup n deed s None = s
 node_does setup n deed s (Some x) = with_node n s (node_after setup n deed x)
 
 abbrev pub services_after : Setup → Turn → Services → Services
-services_after setup (Passes by) s = record { network = network_after (Pass by) s.network; halves = s.halves }
+services_after setup (Passes by) s = record { network = network_after (Pass by) s.network; book = s.book }
 services_after setup (Does n deed) s = node_does setup n deed s (node_at n s)
 
 -- the network after all of them
@@ -83,4 +83,4 @@ services_by setup (t ∷ turns) s = services_by setup turns (services_after setu
 
 -- WHAT A TURN TELLS its program: the happenings that are appended in it
 abbrev pub told_between : Node → Node → List Happening
-told_between x y = drop (length x.halves.happenings) y.halves.happenings
+told_between x y = drop (length x.book.happenings) y.book.happenings

@@ -11,7 +11,7 @@ use Rattle.dt_service_model.specs.Asked.{message_event}
 use Rattle.dt_service_model.specs.Ends.{close}
 use Rattle.dt_service_model.specs.Names.{number_with, token_with}
 use Rattle.dt_service_model.specs.Stopping.{call_kept, message_of_call}
-use Rattle.dt_service_model.specs.Turns.{Node, happens, reads, sweep, with_halves}
+use Rattle.dt_service_model.specs.Turns.{Node, happens, reads, sweep, with_book}
 use Rattle.dt_service_model.specs.Worked.{frame_at, roomy}
 use Rattle.dt_service_laws.specs.Histories.{Message}
 use Rattle.dt_service_laws.specs.Services.{Arrives, Does, FindsNoMemory, GivesKind, GivesReply, MakesCall, OpensAgain, Passes, Services, Ticks, Turn, new_services, node_with, services_by}
@@ -90,7 +90,7 @@ abbrev pub node_in : (node : ℕ) → Services → Node
 node_in n s = node_with n s (unwrap_or (look ◌==◌ n s.network.endpoints) (opened_with two_nodes n None service_options))
 
 abbrev pub stopped_at_judging : Node → Node
-stopped_at_judging x = let read = reads 40 x in with_halves (sweep read.endpoint.state.host) read
+stopped_at_judging x = let read = reads 40 x in with_book (sweep read.endpoint.state.host) read
 
 abbrev pub comes_to_service : List ℕ → Node → Node
 comes_to_service datagram x = happens 40 (arrive_event 7 datagram 0) x
@@ -98,15 +98,15 @@ comes_to_service datagram x = happens 40 (arrive_event 7 datagram 0) x
 abbrev pub out_of_memory : List Turn
 out_of_memory =
     called
-    ++ Does 2 (FindsNoMemory (Arrives 40 7 (frame_of 1 0 (services_by two_nodes called two_services)) 0) (with_halves close (stopped_at_judging (comes_to_service (frame_of 1 0 (services_by two_nodes called two_services)) (node_in 2 (services_by two_nodes called two_services))))))
+    ++ Does 2 (FindsNoMemory (Arrives 40 7 (frame_of 1 0 (services_by two_nodes called two_services)) 0) (with_book close (stopped_at_judging (comes_to_service (frame_of 1 0 (services_by two_nodes called two_services)) (node_in 2 (services_by two_nodes called two_services))))))
     ∷ Does 2 (Ticks 40)
     ∷ []
 
 -- A CLIENT FINDS NO MEMORY in its second call: the call is made, and its turn stops where calls were to be judged
 abbrev pub with_second_call : Node → Node
 with_second_call x =
-    let message = message_of_call (98 ∷ []) x.halves in
-    with_halves (call_kept 40 main_flow message 8000 x) (happens 40 (message_event main_flow message) x)
+    let message = message_of_call (98 ∷ []) x.book in
+    with_book (call_kept 40 main_flow message 8000 x) (happens 40 (message_event main_flow message) x)
 
 abbrev pub client_without_memory : List Turn
-client_without_memory = called ++ Does 1 (FindsNoMemory (MakesCall 40 main_flow (98 ∷ []) 8000) (with_halves close (stopped_at_judging (with_second_call (node_in 1 (services_by two_nodes called two_services)))))) ∷ []
+client_without_memory = called ++ Does 1 (FindsNoMemory (MakesCall 40 main_flow (98 ∷ []) 8000) (with_book close (stopped_at_judging (with_second_call (node_in 1 (services_by two_nodes called two_services)))))) ∷ []

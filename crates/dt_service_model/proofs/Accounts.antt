@@ -13,7 +13,7 @@ use Rattle.dt_service_model.specs.declared.happenings.Happening.{Happening}
 use Rattle.dt_service_model.specs.declared.happenings.Happening.TheVariants.{ReplyUncertain}
 use Rattle.dt_service_model.specs.declared.names.CallNumber.{CallNumber}
 use Rattle.dt_service_model.specs.Names.{same_number}
-use Rattle.dt_service_model.specs.Halves.{Halves, is_service, kind_in}
+use Rattle.dt_service_model.specs.CallBook.{CallBook, is_service, kind_in}
 use Rattle.dt_service_model.specs.Hearing.{Accepts, GivesUp, Heard, NoMatter, Settles, hear_as, is_uncertain, with_fate, with_fates, with_flow}
 use Rattle.dt_service_model.specs.Ends.{cause_of, is_kept, judge, judged_as, judged_call, unsure_by, unsure_of}
 use Rattle.dt_service_model.specs.Accounts.{account, ends_in, has_cause, waits_in, waits_with}
@@ -69,14 +69,14 @@ judged_account n now (call ∷ calls) =
     judged_with n call (cause_of now call) (map (judged_call now) calls) (filter_map (unsure_of now) calls) (waits_in n calls) (judged_account n now calls)
     ∙ ap (λ (k : ℕ). k + waits_in n calls) (counted_when (same_number call.number n) call.waits call.has_given_up (nat_le call.deadline now))
 
-pub judge_keeps : (n : CallNumber) (now : ℕ) (h : Halves) → account n (judge now h) ≡ account n h
+pub judge_keeps : (n : CallNumber) (now : ℕ) (h : CallBook) → account n (judge now h) ≡ account n h
 judge_keeps n now h =
     let a = kept_waits n (map (judged_call now) h.calls) in
     let b = judged_account n now h.calls in
     let c = ends_append n h.happenings (filter_map (unsure_of now) h.calls) in
     omega (arith, a, b, c)
 
-accepted : (n : CallNumber) (b : Bool) (f : Flow) (h : Halves) → account n (cond b (record h { unread = with_flow f h.unread }) h) ≡ account n h
+accepted : (n : CallNumber) (b : Bool) (f : Flow) (h : CallBook) → account n (cond b (record h { unread = with_flow f h.unread }) h) ≡ account n h
 accepted n true f h = refl
 accepted n false f h = refl
 
@@ -85,7 +85,7 @@ given_up_ends n true true f told = refl
 given_up_ends n true false f told = let e = ends_append n told (ReplyUncertain f ∷ []) in omega (arith, e)
 given_up_ends n false c f told = refl
 
-pub hear_keeps : (n : CallNumber) (x : Heard) (h : Halves) → account n (hear_as x h) ≡ account n h
+pub hear_keeps : (n : CallNumber) (x : Heard) (h : CallBook) → account n (hear_as x h) ≡ account n h
 hear_keeps n (Settles f count) h = ap (λ (k : ℕ). k + ends_in n h.happenings) (fates_wait n false f count h.calls)
 hear_keeps n (GivesUp f count) h =
     let a = fates_wait n true f count h.calls in
@@ -123,5 +123,5 @@ sure_all : (now : ℕ) (calls : List OpenCall) → list_any (has_cause now) (fil
 sure_all now [] = refl
 sure_all now (call ∷ calls) = sure_if now (is_kept (judged_call now call)) (judged_call now call) (filter is_kept (map (judged_call now) calls)) (sure_one now call) (sure_all now calls)
 
-pub judge_leaves_none : (now : ℕ) (h : Halves) → list_any (has_cause now) (judge now h).calls ≡ false
+pub judge_leaves_none : (now : ℕ) (h : CallBook) → list_any (has_cause now) (judge now h).calls ≡ false
 judge_leaves_none now h = sure_all now h.calls

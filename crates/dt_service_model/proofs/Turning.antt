@@ -18,8 +18,8 @@ use Rattle.dt_service_model.specs.declared.names.CallNumber.{CallNumber}
 use Rattle.dt_service_model.specs.declared.names.Token.{Token}
 use Rattle.dt_service_model.specs.declared.ports.PortKind.{PortKind}
 use Rattle.dt_service_model.specs.declared.ports.PortKind.TheVariants.{Caller, Service}
-use Rattle.dt_service_model.specs.Names.{call_number, same_number, token_with}
-use Rattle.dt_service_model.specs.Halves.{Halves, counted_up, kind_in, most_octets}
+use Rattle.dt_service_model.specs.Names.{from_u64, same_number, token_with}
+use Rattle.dt_service_model.specs.CallBook.{CallBook, counted_up, kind_in, longest_message}
 use Rattle.dt_service_model.specs.Hearing.{hear, heard}
 use Rattle.dt_service_model.specs.Whole.{answered_at, begun_of, grown, is_open, is_waiting_call, take_as, take_piece, take_reply_at, take_whole, without_token}
 use Rattle.dt_service_model.specs.Accounts.{account, waits_in, waits_with}
@@ -56,7 +56,7 @@ answered_waits n m f d i [] lt h = absurd (omega arith)
 answered_waits n m f d zero (call ∷ calls) lt h = let e = waits_counts n m f call h in omega (arith, e)
 answered_waits n m f d (suc i) (call ∷ calls) lt h = let e = answered_waits n m f d i calls (omega arith) h in omega (arith, e)
 
-reply_keeps : (n m : CallNumber) (f : Flow) (answer : List ℕ) (h : Halves) (o : Option ℕ) → position (is_waiting_call f m) h.calls ≡ o → account n (take_reply_at o m answer h) ≡ account n h
+reply_keeps : (n m : CallNumber) (f : Flow) (answer : List ℕ) (h : CallBook) (o : Option ℕ) → position (is_waiting_call f m) h.calls ≡ o → account n (take_reply_at o m answer h) ≡ account n h
 reply_keeps n m f answer h None is = refl
 reply_keeps n m f answer h (Some i) is =
     let d : OpenCall = record { number = m; flow = f; deadline = 0; left = 0; waits = false; has_given_up = false } in
@@ -65,48 +65,48 @@ reply_keeps n m f answer h (Some i) is =
     let b = ends_append n h.happenings (Answered m answer ∷ []) in
     omega (arith, a, b)
 
-request_if : (n : CallNumber) (b : Bool) (token : Token) (payload : List ℕ) (h : Halves)
+request_if : (n : CallNumber) (b : Bool) (token : Token) (payload : List ℕ) (h : CallBook)
     → account n (cond b (record h { tokens = without_token token h.tokens; counts = record (h.counts) { reused = counted_up h.counts.reused } }) (record h { tokens = h.tokens ++ token ∷ []; happenings = h.happenings ++ Request token payload ∷ [] })) ≡ account n h
 request_if n true token payload h = refl
 request_if n false token payload h = let b = ends_append n h.happenings (Request token payload ∷ []) in omega (arith, b)
 
-as_keeps : (n : CallNumber) (o : Option PortKind) (f : Flow) (m : CallNumber) (carried : List ℕ) (h : Halves) → account n (take_as o f m carried h) ≡ account n h
+as_keeps : (n : CallNumber) (o : Option PortKind) (f : Flow) (m : CallNumber) (carried : List ℕ) (h : CallBook) → account n (take_as o f m carried h) ≡ account n h
 as_keeps n None f m carried h = refl
 as_keeps n (Some Caller) f m carried h = reply_keeps n m (reversed f) carried h (position (is_waiting_call (reversed f) m) h.calls) refl
 as_keeps n (Some Service) f m carried h = request_if n (is_open (token_with f m) h) (token_with f m) carried h
 
-message_if : (n : CallNumber) (b : Bool) (one : Halves) (h : Halves) → account n one ≡ account n h → account n (cond b one (record h { counts = record (h.counts) { short = counted_up h.counts.short } })) ≡ account n h
+message_if : (n : CallNumber) (b : Bool) (one : CallBook) (h : CallBook) → account n one ≡ account n h → account n (cond b one (record h { counts = record (h.counts) { short = counted_up h.counts.short } })) ≡ account n h
 message_if n true one h e = e
 message_if n false one h e = refl
 
-whole_keeps : (n : CallNumber) (f : Flow) (o : Option (List ℕ)) (h : Halves) → account n (take_whole f o h) ≡ account n h
+whole_keeps : (n : CallNumber) (f : Flow) (o : Option (List ℕ)) (h : CallBook) → account n (take_whole f o h) ≡ account n h
 whole_keeps n f None h = refl
 whole_keeps n f (Some message) h =
-    message_if n (has_number message) (take_as (kind_in f.to_port h.ports) f (call_number (number_in message)) (carried_in message) h) h
-    (as_keeps n (kind_in f.to_port h.ports) f (call_number (number_in message)) (carried_in message) h)
+    message_if n (has_number message) (take_as (kind_in f.to_port h.ports) f (from_u64 (number_in message)) (carried_in message) h) h
+    (as_keeps n (kind_in f.to_port h.ports) f (from_u64 (number_in message)) (carried_in message) h)
 
-pub piece_keeps : (n : CallNumber) (f : Flow) (p : Piece) (h : Halves) → account n (take_piece f p h) ≡ account n h
-piece_keeps n f p h = whole_keeps n f (whole_within (Some most_octets) (begun_of f h) p) (grown f (begun_of f h) p h)
+pub piece_keeps : (n : CallNumber) (f : Flow) (p : Piece) (h : CallBook) → account n (take_piece f p h) ≡ account n h
+piece_keeps n f p h = whole_keeps n f (whole_within (Some longest_message) (begun_of f h) p) (grown f (begun_of f h) p h)
 
-pub all_heard : (n : CallNumber) (told : List Told) (h : Halves) → account n (fold hear h told) ≡ account n h
+pub all_heard : (n : CallNumber) (told : List Told) (h : CallBook) → account n (fold hear h told) ≡ account n h
 all_heard n [] h = refl
 all_heard n (t ∷ told) h = all_heard n told (hear h t) ∙ hear_keeps n (heard t) h
 
-pub happens_keeps : (n : CallNumber) (now : ℕ) (event : Event (Unit {0})) (x : Node) → account n (happens now event x).halves ≡ account n x.halves
-happens_keeps n now event x = all_heard n (after_event now event x.endpoint).reports x.halves
+pub happens_keeps : (n : CallNumber) (now : ℕ) (event : Event (Unit {0})) (x : Node) → account n (happens now event x).book ≡ account n x.book
+happens_keeps n now event x = all_heard n (after_event now event x.endpoint).reports x.book
 
-account_kept : (n : CallNumber) (now : ℕ) → IsKept now (λ (x y : Node). account n y.halves ≡ account n x.halves)
+account_kept : (n : CallNumber) (now : ℕ) → IsKept now (λ (x y : Node). account n y.book ≡ account n x.book)
 account_kept n now = record {
   itself = λ x. refl;
   through = λ x y z first second. second ∙ first;
   hears = λ f x. happens_keeps n now (Read f most_read) x;
   done = λ f x. refl;
-  takes = λ f p x. piece_keeps n f p x.halves;
+  takes = λ f p x. piece_keeps n f p x.book;
   swept = λ x. refl;
 }
 
-pub end_keeps : (n : CallNumber) (now : ℕ) (x : Node) → account n (turn_end now x).halves ≡ account n x.halves
-end_keeps n now x = end_kept now (λ (u v : Node). account n v.halves ≡ account n u.halves) (account_kept n now) (λ moment u. judge_keeps n moment u.halves) x
+pub end_keeps : (n : CallNumber) (now : ℕ) (x : Node) → account n (turn_end now x).book ≡ account n x.book
+end_keeps n now x = end_kept now (λ (u v : Node). account n v.book ≡ account n u.book) (account_kept n now) (λ moment u. judge_keeps n moment u.book) x
 
-pub turn_keeps : (n : CallNumber) (now : ℕ) (event : Event (Unit {0})) (x : Node) → account n (turn now event x).halves ≡ account n x.halves
+pub turn_keeps : (n : CallNumber) (now : ℕ) (event : Event (Unit {0})) (x : Node) → account n (turn now event x).book ≡ account n x.book
 turn_keeps n now event x = end_keeps n now (happens now event x) ∙ happens_keeps n now event x

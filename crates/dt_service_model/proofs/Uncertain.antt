@@ -19,9 +19,9 @@ use Rattle.dt_service_model.specs.declared.names.Token.{Token}
 use Rattle.dt_service_model.specs.declared.ports.PortKind.{PortKind}
 use Rattle.dt_service_model.specs.declared.ports.PortKind.TheVariants.{Caller, Service}
 use Rattle.dt_service_model.specs.Ends.{cause_of, judge, unsure_by, unsure_of}
-use Rattle.dt_service_model.specs.Halves.{Halves, counted_up, is_service, kind_in, most_octets}
+use Rattle.dt_service_model.specs.CallBook.{CallBook, counted_up, is_service, kind_in, longest_message}
 use Rattle.dt_service_model.specs.Hearing.{Accepts, GivesUp, Heard, NoMatter, Settles, hear, hear_as, heard, is_uncertain, told_given_up, with_flow, with_uncertain}
-use Rattle.dt_service_model.specs.Names.{call_number, token_with}
+use Rattle.dt_service_model.specs.Names.{from_u64, token_with}
 use Rattle.dt_service_model.specs.Turns.{Node, happens, most_read, turn, turn_end}
 use Rattle.dt_service_model.specs.Uncertain.{GivesUpReply, uncertain_in}
 use Rattle.dt_service_model.specs.Whole.{begun_of, grown, is_open, is_waiting_call, take_as, take_piece, take_reply_at, take_whole, without_token}
@@ -53,7 +53,7 @@ told_with f told false is = any_append f told (ReplyUncertain f) ∙ ap (λ (b :
     or_true true = refl
     or_true false = refl
 
-pub given_up_is_told : (f : Flow) (count : ℕ) (h : Halves) → is_service (kind_in f.from_port h.ports) ≡ true → list_any (is_uncertain (reversed f)) (hear_as (GivesUp f count) h).happenings ≡ true
+pub given_up_is_told : (f : Flow) (count : ℕ) (h : CallBook) → is_service (kind_in f.from_port h.ports) ≡ true → list_any (is_uncertain (reversed f)) (hear_as (GivesUp f count) h).happenings ≡ true
 given_up_is_told f count h of_service = rw of_service (told_with (reversed f) h.happenings (list_any (is_uncertain (reversed f)) h.happenings) refl)
 
 -- AND NOTHING ELSE
@@ -65,7 +65,7 @@ new_with f g told false none some = by_parts (list_any (is_uncertain f) told) (s
     by_parts true b n s = absurd cc
     by_parts false b n s = s
 
-alone_by : (f back : Flow) (count : ℕ) (h : Halves) (b : Bool) → is_service (kind_in back.from_port h.ports) ≡ b → list_any (is_uncertain f) h.happenings ≡ false
+alone_by : (f back : Flow) (count : ℕ) (h : CallBook) (b : Bool) → is_service (kind_in back.from_port h.ports) ≡ b → list_any (is_uncertain f) h.happenings ≡ false
     → list_any (is_uncertain f) (cond b (with_uncertain (reversed back) h.happenings) h.happenings) ≡ true → GivesUpReply f (GivesUp back count) h
 alone_by f back count h true of_service none some = record {
   back = back;
@@ -76,11 +76,11 @@ alone_by f back count h true of_service none some = record {
 }
 alone_by f back count h false of_service none some = absurd cc
 
-accepts_none : (f g : Flow) (b : Bool) (h : Halves) → list_any (is_uncertain f) h.happenings ≡ false → list_any (is_uncertain f) (cond b (record h { unread = with_flow g h.unread }) h).happenings ≡ true → GivesUpReply f (Accepts g) h
+accepts_none : (f g : Flow) (b : Bool) (h : CallBook) → list_any (is_uncertain f) h.happenings ≡ false → list_any (is_uncertain f) (cond b (record h { unread = with_flow g h.unread }) h).happenings ≡ true → GivesUpReply f (Accepts g) h
 accepts_none f g true h none some = absurd cc
 accepts_none f g false h none some = absurd cc
 
-pub told_as_given_up : (f : Flow) (what : Heard) (h : Halves) → list_any (is_uncertain f) h.happenings ≡ false → list_any (is_uncertain f) (hear_as what h).happenings ≡ true → GivesUpReply f what h
+pub told_as_given_up : (f : Flow) (what : Heard) (h : CallBook) → list_any (is_uncertain f) h.happenings ≡ false → list_any (is_uncertain f) (hear_as what h).happenings ≡ true → GivesUpReply f what h
 told_as_given_up f (Settles g count) h none some = absurd cc
 told_as_given_up f (GivesUp back count) h none some = alone_by f back count h (is_service (kind_in back.from_port h.ports)) refl none some
 told_as_given_up f (Accepts g) h none some = accepts_none f g (is_some (kind_in g.to_port h.ports)) h none some
@@ -114,21 +114,21 @@ once_with f g told false is most = by_same (same_flow g f) refl
         let l : one_if (same_flow g f) ≡ 0 = ap one_if other in
         omega (arith, e, l)
 
-once_if : (f back : Flow) (h : Halves) (b : Bool) → uncertain_in f h.happenings ≤ 1 → uncertain_in f (cond b (with_uncertain (reversed back) h.happenings) h.happenings) ≤ 1
+once_if : (f back : Flow) (h : CallBook) (b : Bool) → uncertain_in f h.happenings ≤ 1 → uncertain_in f (cond b (with_uncertain (reversed back) h.happenings) h.happenings) ≤ 1
 once_if f back h true most = once_with f (reversed back) h.happenings (list_any (is_uncertain (reversed back)) h.happenings) refl most
 once_if f back h false most = most
 
-accepts_once : (f g : Flow) (b : Bool) (h : Halves) → uncertain_in f (cond b (record h { unread = with_flow g h.unread }) h).happenings ≡ uncertain_in f h.happenings
+accepts_once : (f g : Flow) (b : Bool) (h : CallBook) → uncertain_in f (cond b (record h { unread = with_flow g h.unread }) h).happenings ≡ uncertain_in f h.happenings
 accepts_once f g true h = refl
 accepts_once f g false h = refl
 
-hear_once : (f : Flow) (what : Heard) (h : Halves) → uncertain_in f h.happenings ≤ 1 → uncertain_in f (hear_as what h).happenings ≤ 1
+hear_once : (f : Flow) (what : Heard) (h : CallBook) → uncertain_in f h.happenings ≤ 1 → uncertain_in f (hear_as what h).happenings ≤ 1
 hear_once f (Settles g count) h most = most
 hear_once f (GivesUp back count) h most = once_if f back h (is_service (kind_in back.from_port h.ports)) most
 hear_once f (Accepts g) h most = let e = accepts_once f g (is_some (kind_in g.to_port h.ports)) h in omega (arith, e)
 hear_once f NoMatter h most = most
 
-pub all_hear_once : (f : Flow) (told : List Told) (h : Halves) → uncertain_in f h.happenings ≤ 1 → uncertain_in f (fold hear h told).happenings ≤ 1
+pub all_hear_once : (f : Flow) (told : List Told) (h : CallBook) → uncertain_in f h.happenings ≤ 1 → uncertain_in f (fold hear h told).happenings ≤ 1
 all_hear_once f [] h most = most
 all_hear_once f (t ∷ told) h most = all_hear_once f told (hear h t) (hear_once f (heard t) h most)
 
@@ -136,30 +136,30 @@ all_hear_once f (t ∷ told) h most = all_hear_once f told (hear h t) (hear_once
 more_of : (f : Flow) (hs : List Happening) (t : Happening) → is_uncertain f t ≡ false → uncertain_in f (hs ++ t ∷ []) ≡ uncertain_in f hs
 more_of f hs t is = let e = uncertain_append f hs (t ∷ []) in let l : one_if (is_uncertain f t) ≡ 0 = ap one_if is in omega (arith, e, l)
 
-reply_tells_none : (f : Flow) (o : Option ℕ) (n : CallNumber) (answer : List ℕ) (h : Halves) → uncertain_in f (take_reply_at o n answer h).happenings ≡ uncertain_in f h.happenings
+reply_tells_none : (f : Flow) (o : Option ℕ) (n : CallNumber) (answer : List ℕ) (h : CallBook) → uncertain_in f (take_reply_at o n answer h).happenings ≡ uncertain_in f h.happenings
 reply_tells_none f None n answer h = refl
 reply_tells_none f (Some place) n answer h = more_of f h.happenings (Answered n answer) refl
 
-request_tells_none : (f : Flow) (b : Bool) (token : Token) (payload : List ℕ) (h : Halves)
+request_tells_none : (f : Flow) (b : Bool) (token : Token) (payload : List ℕ) (h : CallBook)
     → uncertain_in f (cond b (record h { tokens = without_token token h.tokens; counts = record (h.counts) { reused = counted_up h.counts.reused } }) (record h { tokens = h.tokens ++ token ∷ []; happenings = h.happenings ++ Request token payload ∷ [] })).happenings ≡ uncertain_in f h.happenings
 request_tells_none f true token payload h = refl
 request_tells_none f false token payload h = more_of f h.happenings (Request token payload) refl
 
-as_tells_none : (f : Flow) (kind : Option PortKind) (g : Flow) (n : CallNumber) (carried : List ℕ) (h : Halves) → uncertain_in f (take_as kind g n carried h).happenings ≡ uncertain_in f h.happenings
+as_tells_none : (f : Flow) (kind : Option PortKind) (g : Flow) (n : CallNumber) (carried : List ℕ) (h : CallBook) → uncertain_in f (take_as kind g n carried h).happenings ≡ uncertain_in f h.happenings
 as_tells_none f None g n carried h = refl
 as_tells_none f (Some Caller) g n carried h = reply_tells_none f (position (is_waiting_call (reversed g) n) h.calls) n carried h
 as_tells_none f (Some Service) g n carried h = request_tells_none f (is_open (token_with g n) h) (token_with g n) carried h
 
-message_tells_none : (f : Flow) (b : Bool) (one : Halves) (h : Halves) → uncertain_in f one.happenings ≡ uncertain_in f h.happenings → uncertain_in f (cond b one (record h { counts = record (h.counts) { short = counted_up h.counts.short } })).happenings ≡ uncertain_in f h.happenings
+message_tells_none : (f : Flow) (b : Bool) (one : CallBook) (h : CallBook) → uncertain_in f one.happenings ≡ uncertain_in f h.happenings → uncertain_in f (cond b one (record h { counts = record (h.counts) { short = counted_up h.counts.short } })).happenings ≡ uncertain_in f h.happenings
 message_tells_none f true one h e = e
 message_tells_none f false one h e = refl
 
-whole_tells_none : (f g : Flow) (o : Option (List ℕ)) (h : Halves) → uncertain_in f (take_whole g o h).happenings ≡ uncertain_in f h.happenings
+whole_tells_none : (f g : Flow) (o : Option (List ℕ)) (h : CallBook) → uncertain_in f (take_whole g o h).happenings ≡ uncertain_in f h.happenings
 whole_tells_none f g None h = refl
-whole_tells_none f g (Some m) h = message_tells_none f (has_number m) (take_as (kind_in g.to_port h.ports) g (call_number (number_in m)) (carried_in m) h) h (as_tells_none f (kind_in g.to_port h.ports) g (call_number (number_in m)) (carried_in m) h)
+whole_tells_none f g (Some m) h = message_tells_none f (has_number m) (take_as (kind_in g.to_port h.ports) g (from_u64 (number_in m)) (carried_in m) h) h (as_tells_none f (kind_in g.to_port h.ports) g (from_u64 (number_in m)) (carried_in m) h)
 
-pub piece_tells_none : (f g : Flow) (p : Piece) (h : Halves) → uncertain_in f (take_piece g p h).happenings ≡ uncertain_in f h.happenings
-piece_tells_none f g p h = whole_tells_none f g (whole_within (Some most_octets) (begun_of g h) p) (grown g (begun_of g h) p h)
+pub piece_tells_none : (f g : Flow) (p : Piece) (h : CallBook) → uncertain_in f (take_piece g p h).happenings ≡ uncertain_in f h.happenings
+piece_tells_none f g p h = whole_tells_none f g (whole_within (Some longest_message) (begun_of g h) p) (grown g (begun_of g h) p h)
 
 -- NOR DOES A JUDGING
 unsure_none : (f : Flow) (now : ℕ) (calls : List OpenCall) → uncertain_in f (filter_map (unsure_of now) calls) ≡ 0
@@ -170,24 +170,24 @@ unsure_none f now (call ∷ calls) = by_cause (cause_of now call) (unsure_none f
     by_cause None rest = rest
     by_cause (Some cause) rest = omega (arith, rest)
 
-judge_tells_none : (f : Flow) (now : ℕ) (h : Halves) → uncertain_in f (judge now h).happenings ≡ uncertain_in f h.happenings
+judge_tells_none : (f : Flow) (now : ℕ) (h : CallBook) → uncertain_in f (judge now h).happenings ≡ uncertain_in f h.happenings
 judge_tells_none f now h = let a = uncertain_append f h.happenings (filter_map (unsure_of now) h.calls) in let b = unsure_none f now h.calls in omega (arith, a, b)
 
 -- A TURN
-once_kept : (f : Flow) (now : ℕ) → IsKept now (λ (x y : Node). uncertain_in f x.halves.happenings ≤ 1 → uncertain_in f y.halves.happenings ≤ 1)
+once_kept : (f : Flow) (now : ℕ) → IsKept now (λ (x y : Node). uncertain_in f x.book.happenings ≤ 1 → uncertain_in f y.book.happenings ≤ 1)
 once_kept f now = record {
   itself = λ x most. most;
   through = λ x y z first second most. second (first most);
-  hears = λ g x most. all_hear_once f (after_event now (Read g most_read) x.endpoint).reports x.halves most;
+  hears = λ g x most. all_hear_once f (after_event now (Read g most_read) x.endpoint).reports x.book most;
   done = λ g x most. most;
-  takes = λ g p x most. (let e = piece_tells_none f g p x.halves in omega (arith, e));
+  takes = λ g p x most. (let e = piece_tells_none f g p x.book in omega (arith, e));
   swept = λ x most. most;
 }
 
-pub end_tells_once : (f : Flow) (now : ℕ) (x : Node) → uncertain_in f x.halves.happenings ≤ 1 → uncertain_in f (turn_end now x).halves.happenings ≤ 1
+pub end_tells_once : (f : Flow) (now : ℕ) (x : Node) → uncertain_in f x.book.happenings ≤ 1 → uncertain_in f (turn_end now x).book.happenings ≤ 1
 end_tells_once f now x =
-    end_kept now (λ (u v : Node). uncertain_in f u.halves.happenings ≤ 1 → uncertain_in f v.halves.happenings ≤ 1) (once_kept f now)
-    (λ moment u most. (let e = judge_tells_none f moment u.halves in omega (arith, e))) x
+    end_kept now (λ (u v : Node). uncertain_in f u.book.happenings ≤ 1 → uncertain_in f v.book.happenings ≤ 1) (once_kept f now)
+    (λ moment u most. (let e = judge_tells_none f moment u.book in omega (arith, e))) x
 
-pub turn_tells_once : (f : Flow) (now : ℕ) (event : Event (Unit {0})) (x : Node) → uncertain_in f x.halves.happenings ≤ 1 → uncertain_in f (turn now event x).halves.happenings ≤ 1
-turn_tells_once f now event x most = end_tells_once f now (happens now event x) (all_hear_once f (after_event now event x.endpoint).reports x.halves most)
+pub turn_tells_once : (f : Flow) (now : ℕ) (event : Event (Unit {0})) (x : Node) → uncertain_in f x.book.happenings ≤ 1 → uncertain_in f (turn now event x).book.happenings ≤ 1
+turn_tells_once f now event x most = end_tells_once f now (happens now event x) (all_hear_once f (after_event now event x.endpoint).reports x.book most)

@@ -9,7 +9,7 @@ use Rattle.dt_service_model.specs.declared.happenings.Happening.{Happening}
 use Rattle.dt_service_model.specs.declared.happenings.Happening.TheVariants.{Answered, ReplyUncertain, Request, Unsure}
 use Rattle.dt_service_model.specs.declared.names.CallNumber.{CallNumber}
 use Rattle.dt_service_model.specs.Names.{same_number}
-use Rattle.dt_service_model.specs.Halves.{Halves}
+use Rattle.dt_service_model.specs.CallBook.{CallBook}
 use Rattle.dt_service_model.specs.Ends.{cause_of}
 
 abbrev pub waits_with : CallNumber → OpenCall → Bool
@@ -28,7 +28,7 @@ abbrev pub ends_in : CallNumber → List Happening → ℕ
 ends_in n told = total (λ happening. one_if (is_end_of n happening)) told
 
 -- THE ACCOUNT of a number: one for each call of it that waits, and one for each end of it that was told and wasn't taken
-abbrev pub account : CallNumber → Halves → ℕ
+abbrev pub account : CallNumber → CallBook → ℕ
 account n h = waits_in n h.calls + ends_in n h.happenings
 
 -- whether a call is unsure at a moment, and hasn't been told so

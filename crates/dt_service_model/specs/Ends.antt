@@ -5,7 +5,7 @@ use Rattle.dt_service_model.specs.declared.calls.Cause.{Cause}
 use Rattle.dt_service_model.specs.declared.calls.Cause.TheVariants as cause
 use Rattle.dt_service_model.specs.declared.happenings.Happening.{Happening}
 use Rattle.dt_service_model.specs.declared.happenings.Happening.TheVariants.{Unsure}
-use Rattle.dt_service_model.specs.Halves.{Halves}
+use Rattle.dt_service_model.specs.CallBook.{CallBook}
 
 -- WHY A CALL IS UNSURE at a moment, if it is: it waits, and an octet of its request was given up, or else its patience is over
 abbrev pub cause_of : (now : ℕ) → OpenCall → Option Cause
@@ -32,31 +32,31 @@ abbrev pub is_kept : OpenCall → Bool
 is_kept call = call.waits || nat_lt 0 call.left
 
 -- EACH CALL IS JUDGED, in the order of making
-abbrev pub judge : (now : ℕ) → Halves → Halves
+abbrev pub judge : (now : ℕ) → CallBook → CallBook
 judge now h = record h {
   calls = filter is_kept (map (judged_call now) h.calls);
   happenings = h.happenings ++ filter_map (unsure_of now) h.calls;
 }
 
 -- THE NODE CLOSES: each call that waits is unsure, and all else but what wasn't taken is forgotten. A node that closes takes no memory: its calls stay until their ends are taken
-abbrev pub close : Halves → Halves
+abbrev pub close : CallBook → CallBook
 close h = record h { closed = true; calls = filter (λ (call : OpenCall). call.waits) h.calls; tokens = []; begun = []; unread = [] }
 
 abbrev pub closing_of : OpenCall → Happening
 closing_of call = Unsure call.number cause.Closed
 
 -- ALL THAT WAS TOLD and wasn't taken
-abbrev pub told_by : Halves → List Happening
+abbrev pub told_by : CallBook → List Happening
 told_by h = h.happenings ++ (if h.closed then map closing_of h.calls else [])
 
 -- THE NEXT OF IT is taken
-abbrev pub next_call : List OpenCall → Halves → Option Happening × Halves
+abbrev pub next_call : List OpenCall → CallBook → Option Happening × CallBook
 next_call [] h = (None, h)
 next_call (call ∷ calls) h = (Some (closing_of call), record h { calls = calls })
 
-abbrev pub next_in : List Happening → Halves → Option Happening × Halves
+abbrev pub next_in : List Happening → CallBook → Option Happening × CallBook
 next_in [] h = if h.closed then next_call h.calls h else (None, h)
 next_in (happening ∷ happenings) h = (Some happening, record h { happenings = happenings })
 
-abbrev pub next : Halves → Option Happening × Halves
+abbrev pub next : CallBook → Option Happening × CallBook
 next h = next_in h.happenings h

@@ -11,7 +11,7 @@ use Rattle.dt_service_model.specs.declared.calls.OpenCall.{OpenCall}
 use Rattle.dt_service_model.specs.declared.happenings.Happening.{Happening}
 use Rattle.dt_service_model.specs.declared.happenings.Happening.TheVariants.{Answered, ReplyUncertain, Request, Unsure}
 use Rattle.dt_service_model.specs.declared.ports.Port.{Port}
-use Rattle.dt_service_model.specs.Halves.{Halves, is_service, kind_in}
+use Rattle.dt_service_model.specs.CallBook.{CallBook, is_service, kind_in}
 
 pub data Heard : Type 0 where
   Settles : (flow : Flow) → (count : ℕ) → Heard
@@ -65,14 +65,14 @@ with_uncertain f told = if list_any (is_uncertain f) told then told else told ++
 abbrev pub told_given_up : Flow → List Port → List Happening → List Happening
 told_given_up f ports told = if is_service (kind_in f.from_port ports) then with_uncertain (reversed f) told else told
 
-abbrev pub hear_as : Heard → Halves → Halves
+abbrev pub hear_as : Heard → CallBook → CallBook
 hear_as (Settles f count) h = record h { calls = with_fates false f count h.calls }
 hear_as (GivesUp f count) h = record h { calls = with_fates true f count h.calls; happenings = told_given_up f h.ports h.happenings }
 hear_as (Accepts f) h = if is_some (kind_in f.to_port h.ports) then record h { unread = with_flow f h.unread } else h
 hear_as NoMatter h = h
 
-abbrev pub hear : Halves → Told → Halves
+abbrev pub hear : CallBook → Told → CallBook
 hear h told = hear_as (heard told) h
 
-abbrev pub hear_all : List Told → Halves → Halves
+abbrev pub hear_all : List Told → CallBook → CallBook
 hear_all told h = fold hear h told

@@ -1,5 +1,5 @@
 pub mod Names
-pub mod Halves
+pub mod CallBook
 pub mod Hearing
 pub mod Whole
 pub mod Ends

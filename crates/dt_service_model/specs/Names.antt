@@ -9,11 +9,11 @@ abbrev pub number_with : (life count : ℕ) → CallNumber
 number_with life count = record { life = life; count = count }
 
 -- as one number, and back
-abbrev pub number_of : CallNumber → ℕ
-number_of n = n.life * 2 ^ 32 + n.count
+abbrev pub to_u64 : CallNumber → ℕ
+to_u64 n = n.life * 2 ^ 32 + n.count
 
-abbrev pub call_number : ℕ → CallNumber
-call_number n = number_with (n / 2 ^ 32) (n % 2 ^ 32)
+abbrev pub from_u64 : ℕ → CallNumber
+from_u64 n = number_with (n / 2 ^ 32) (n % 2 ^ 32)
 
 abbrev pub same_number : CallNumber → CallNumber → Bool
 same_number m n = (m.life == n.life) && (m.count == n.count)

@@ -11,21 +11,21 @@ use Rattle.dt_calls_model.specs.Messages.{Piece}
 use Rattle.dt_endpoint.specs.Calls.{read_answer}
 use Rattle.dt_endpoint.specs.Endpoints.{EndpointValue, after_event, endpoint_wake, moment_of}
 use Rattle.dt_service_model.specs.declared.calls.OpenCall.{OpenCall}
-use Rattle.dt_service_model.specs.Halves.{Halves, counted_by, may_read}
+use Rattle.dt_service_model.specs.CallBook.{CallBook, counted_by, may_read}
 use Rattle.dt_service_model.specs.Hearing.{hear_all}
 use Rattle.dt_service_model.specs.Whole.{take_piece}
 use Rattle.dt_service_model.specs.Ends.{judge}
 
 pub record Node : Type 0 where
   pub endpoint : EndpointValue
-  pub halves : Halves
+  pub book : CallBook
 
-abbrev pub with_halves : (Halves → Halves) → Node → Node
-with_halves change n = record n { halves = change n.halves }
+abbrev pub with_book : (CallBook → CallBook) → Node → Node
+with_book change n = record n { book = change n.book }
 
 -- IT HEARS what its endpoint has told, and that waits no more
 abbrev pub hears : Node → Node
-hears n = record { endpoint = record (n.endpoint) { reports = [] }; halves = hear_all n.endpoint.reports n.halves }
+hears n = record { endpoint = record (n.endpoint) { reports = [] }; book = hear_all n.endpoint.reports n.book }
 
 -- an event of its endpoint, of which it hears at once
 abbrev pub happens : (now : ℕ) → Event (Unit {0}) → Node → Node
@@ -47,15 +47,15 @@ abbrev pub piece_at : (now : ℕ) → Flow → EndpointValue → Option Piece
 piece_at now f e = let items = read_answer now f most_read e in piece_with (octets_of items) (piece_told items)
 
 -- the flow is to be read no more
-abbrev pub done_with : Flow → Halves → Halves
+abbrev pub done_with : Flow → CallBook → CallBook
 done_with f h = record h { unread = filter (λ g. not (same_flow g f)) h.unread }
 
 abbrev pub take_read : (Node → Node) → Flow → Option Piece → Node → Node
-take_read again f None n = with_halves (done_with f) n
-take_read again f (Some piece) n = again (with_halves (take_piece f piece) n)
+take_read again f None n = with_book (done_with f) n
+take_read again f (Some piece) n = again (with_book (take_piece f piece) n)
 
 abbrev pub read_if : (Node → Node) → (now : ℕ) → Flow → Node → Node
-read_if again now f n = if comes_in n f && may_read f n.halves then take_read again f (piece_at now f n.endpoint) (happens now (Read f most_read) n) else n
+read_if again now f n = if comes_in n f && may_read f n.book then take_read again f (piece_at now f n.endpoint) (happens now (Read f most_read) n) else n
 
 abbrev pub read_times : (most : ℕ) → (now : ℕ) → Flow → Node → Node
 read_times zero now f n = n
@@ -69,13 +69,13 @@ abbrev pub read_flow : (now : ℕ) → Node → Flow → Node
 read_flow now n f = read_times most_reads now f n
 
 abbrev pub reads : (now : ℕ) → Node → Node
-reads now n = fold (read_flow now) n n.halves.unread
+reads now n = fold (read_flow now) n n.book.unread
 
 -- WHAT WAS BEGUN of a flow without a receiver goes: its next octet has a run mark. Each is counted as cut
 abbrev pub has_receiver : Host → Flow × List ℕ → Bool
 has_receiver host e = has_key same_flow e.0 host.receivers
 
-abbrev pub sweep : Host → Halves → Halves
+abbrev pub sweep : Host → CallBook → CallBook
 sweep host h =
     let kept = filter (has_receiver host) h.begun in
     record h { begun = kept; counts = record (h.counts) { cut = counted_by (length h.begun - length kept) h.counts.cut } }
@@ -84,7 +84,7 @@ sweep host h =
 abbrev pub turn_end : (now : ℕ) → Node → Node
 turn_end now n =
     let read = reads now n in
-    record { endpoint = read.endpoint; halves = judge (moment_of now read.endpoint) (sweep read.endpoint.state.host read.halves) }
+    record { endpoint = read.endpoint; book = judge (moment_of now read.endpoint) (sweep read.endpoint.state.host read.book) }
 
 abbrev pub turn : (now : ℕ) → Event (Unit {0}) → Node → Node
 turn now event n = turn_end now (happens now event n)
@@ -94,4 +94,4 @@ abbrev pub deadline_of : OpenCall → Option ℕ
 deadline_of call = if call.waits then Some call.deadline else None
 
 abbrev pub wake : Node → Option ℕ
-wake n = if n.halves.closed then None else earlier (endpoint_wake n.endpoint) (earliest deadline_of n.halves.calls)
+wake n = if n.book.closed then None else earlier (endpoint_wake n.endpoint) (earliest deadline_of n.book.calls)

@@ -12,8 +12,8 @@ use Rattle.dt_service_model.specs.declared.names.CallNumber.{CallNumber}
 use Rattle.dt_service_model.specs.declared.names.Token.{Token}
 use Rattle.dt_service_model.specs.declared.ports.PortKind.{PortKind}
 use Rattle.dt_service_model.specs.declared.ports.PortKind.TheVariants.{Caller, Service}
-use Rattle.dt_service_model.specs.Names.{call_number, same_number, same_token, token_with}
-use Rattle.dt_service_model.specs.Halves.{Halves, counted_up, kind_in, most_octets}
+use Rattle.dt_service_model.specs.Names.{from_u64, same_number, same_token, token_with}
+use Rattle.dt_service_model.specs.CallBook.{CallBook, counted_up, kind_in, longest_message}
 
 -- A REPLY of number n on the reverse of f: the call of that number that waits on f is answered with it. Else it is dropped and counted.
 abbrev pub is_waiting_call : Flow → CallNumber → OpenCall → Bool
@@ -26,7 +26,7 @@ ended call = record call { waits = false }
 abbrev pub waits_anywhere : CallNumber → List OpenCall → Bool
 waits_anywhere n calls = list_any (λ (call : OpenCall). call.waits && same_number call.number n) calls
 
-abbrev pub stray_counted : CallNumber → Halves → CallCounts
+abbrev pub stray_counted : CallNumber → CallBook → CallCounts
 stray_counted n h =
     if not (n.life == h.life) then record (h.counts) { old = counted_up h.counts.old }
     else if nat_lt n.count h.count && not (waits_anywhere n h.calls) then record (h.counts) { late = counted_up h.counts.late }
@@ -37,37 +37,37 @@ answered_at place [] = []
 answered_at zero (call ∷ calls) = ended call ∷ calls
 answered_at (suc place) (call ∷ calls) = call ∷ answered_at place calls
 
-abbrev pub take_reply_at : Option ℕ → CallNumber → List ℕ → Halves → Halves
+abbrev pub take_reply_at : Option ℕ → CallNumber → List ℕ → CallBook → CallBook
 take_reply_at None n answer h = record h { counts = stray_counted n h }
 take_reply_at (Some place) n answer h = record h { calls = answered_at place h.calls; happenings = h.happenings ++ Answered n answer ∷ [] }
 
-abbrev pub take_reply : Flow → CallNumber → List ℕ → Halves → Halves
+abbrev pub take_reply : Flow → CallNumber → List ℕ → CallBook → CallBook
 take_reply f n answer h = take_reply_at (position (is_waiting_call f n) h.calls) n answer h
 
 -- A REQUEST is handed out, and its name is its token. Where that name is open already neither has one of its own.
-abbrev pub is_open : Token → Halves → Bool
+abbrev pub is_open : Token → CallBook → Bool
 is_open token h = list_any (same_token token) h.tokens
 
 abbrev pub without_token : Token → List Token → List Token
 without_token token tokens = filter (λ t. not (same_token token t)) tokens
 
-abbrev pub take_request : Token → List ℕ → Halves → Halves
+abbrev pub take_request : Token → List ℕ → CallBook → CallBook
 take_request token payload h =
     if is_open token h then record h { tokens = without_token token h.tokens; counts = record (h.counts) { reused = counted_up h.counts.reused } }
     else record h { tokens = h.tokens ++ token ∷ []; happenings = h.happenings ++ Request token payload ∷ [] }
 
 -- A WHOLE MESSAGE, by the kind of the port to which it came
-abbrev pub take_as : Option PortKind → Flow → CallNumber → List ℕ → Halves → Halves
+abbrev pub take_as : Option PortKind → Flow → CallNumber → List ℕ → CallBook → CallBook
 take_as None f n carried h = h
 take_as (Some Caller) f n carried h = take_reply (reversed f) n carried h
 take_as (Some Service) f n carried h = take_request (token_with f n) carried h
 
-abbrev pub take_message : Flow → List ℕ → Halves → Halves
+abbrev pub take_message : Flow → List ℕ → CallBook → CallBook
 take_message f message h =
-    if has_number message then take_as (kind_in f.to_port h.ports) f (call_number (number_in message)) (carried_in message) h
+    if has_number message then take_as (kind_in f.to_port h.ports) f (from_u64 (number_in message)) (carried_in message) h
     else record h { counts = record (h.counts) { short = counted_up h.counts.short } }
 
-abbrev pub take_whole : Flow → Option (List ℕ) → Halves → Halves
+abbrev pub take_whole : Flow → Option (List ℕ) → CallBook → CallBook
 take_whole f None h = h
 take_whole f (Some message) h = take_message f message h
 
@@ -97,14 +97,14 @@ cut_counted cut c = if cut then record c { cut = counted_up c.cut } else c
 abbrev pub long_counted : Bool → CallCounts → CallCounts
 long_counted long c = if long then record c { long = counted_up c.long } else c
 
-abbrev pub grown : Flow → Option (List ℕ) → Piece → Halves → Halves
+abbrev pub grown : Flow → Option (List ℕ) → Piece → CallBook → CallBook
 grown f begun p h = record h {
-  begun = with_begun f (begun_within (Some most_octets) begun p) (without_begun (position (is_of f) h.begun) h.begun);
-  counts = long_counted (outgrows (Some most_octets) begun p) (cut_counted (is_cut begun p) h.counts);
+  begun = with_begun f (begun_within (Some longest_message) begun p) (without_begun (position (is_of f) h.begun) h.begun);
+  counts = long_counted (outgrows (Some longest_message) begun p) (cut_counted (is_cut begun p) h.counts);
 }
 
-abbrev pub begun_of : Flow → Halves → Option (List ℕ)
+abbrev pub begun_of : Flow → CallBook → Option (List ℕ)
 begun_of f h = begun_at (position (is_of f) h.begun) h.begun
 
-abbrev pub take_piece : Flow → Piece → Halves → Halves
-take_piece f p h = let begun = begun_of f h in take_whole f (whole_within (Some most_octets) begun p) (grown f begun p h)
+abbrev pub take_piece : Flow → Piece → CallBook → CallBook
+take_piece f p h = let begun = begun_of f h in take_whole f (whole_within (Some longest_message) begun p) (grown f begun p h)

@@ -14,7 +14,7 @@ use Rattle.dt_service_model.specs.declared.names.Token.{Token}
 use Rattle.dt_service_model.specs.declared.ports.PortKind.TheVariants.{Caller, Service}
 use Rattle.dt_service_model.specs.declared.ports.Most.{Most}
 use Rattle.dt_service_model.specs.Names.{number_with, token_with}
-use Rattle.dt_service_model.specs.Halves.{new_halves}
+use Rattle.dt_service_model.specs.CallBook.{new_book}
 use Rattle.dt_service_model.specs.Turns.{Node}
 use Rattle.dt_service_model.specs.Asked.{arrive, call, reply, tick, with_kind}
 
@@ -29,10 +29,10 @@ abbrev pub roomy : Most
 roomy = record { calls = 8; requests = 8; of_a_flow = 4 }
 
 abbrev pub client_of : (life : ℕ) → EndpointValue → Node
-client_of life e = record { endpoint = e; halves = with_kind 10 Caller (new_halves roomy life) }
+client_of life e = record { endpoint = e; book = with_kind 10 Caller (new_book roomy life) }
 
 abbrev pub server_of : (life : ℕ) → EndpointValue → Node
-server_of life e = record { endpoint = e; halves = with_kind 20 Service (new_halves roomy life) }
+server_of life e = record { endpoint = e; book = with_kind 20 Service (new_book roomy life) }
 
 pub record Pair : Type 0 where
   pub client : Node
@@ -82,10 +82,10 @@ does now (ServerRestarts life) p = ([], with_server (server_of life (after_frame
 
 -- all that a node has told is taken
 abbrev pub taken : Node → Node
-taken n = record { endpoint = n.endpoint; halves = record (n.halves) { happenings = [] } }
+taken n = record { endpoint = n.endpoint; book = record (n.book) { happenings = [] } }
 
 abbrev pub lines_of : (now : ℕ) → Pair → List Line
-lines_of now p = map (Happens now) (p.client.halves.happenings ++ p.server.halves.happenings)
+lines_of now p = map (Happens now) (p.client.book.happenings ++ p.server.book.happenings)
 
 abbrev pub take_all : (now : ℕ) → List Line × Pair → List Line × Pair
 take_all now r = (r.0 ++ lines_of now r.1, record { client = taken r.1.client; server = taken r.1.server })
@@ -109,10 +109,10 @@ pub record Rest : Type 0 where
 
 abbrev pub rest_of : Pair → Rest
 rest_of p = record {
-  waiting = map (λ (call : OpenCall). call.number) (filter (λ (call : OpenCall). call.waits) p.client.halves.calls);
-  open_names = map (λ (token : Token). token.number) p.server.halves.tokens;
-  at_client = p.client.halves.counts;
-  at_server = p.server.halves.counts;
+  waiting = map (λ (call : OpenCall). call.number) (filter (λ (call : OpenCall). call.waits) p.client.book.calls);
+  open_names = map (λ (token : Token). token.number) p.server.book.tokens;
+  at_client = p.client.book.counts;
+  at_server = p.server.book.counts;
 }
 
 abbrev pub rest_after : List (ℕ × Deed) → Pair → Rest

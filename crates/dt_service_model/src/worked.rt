@@ -8,7 +8,7 @@ ghost use Rattle.dt_service_model.specs.declared.answers.Replied.TheVariants as 
 ghost use Rattle.dt_service_model.specs.declared.calls.Cause.TheVariants as cause;
 ghost use Rattle.dt_service_model.specs.declared.happenings.Happening.TheVariants.{Answered, ReplyUncertain, Request, Unsure};
 ghost use Rattle.dt_world_model.specs.Worked.{main_flow};
-ghost use Rattle.dt_service_model.specs.Halves.{no_counts};
+ghost use Rattle.dt_service_model.specs.CallBook.{no_counts};
 ghost use Rattle.dt_service_model.specs.Names.{number_with};
 ghost use Rattle.dt_service_model.specs.Runs.{answered_in_any_order, asked_again, client_restarts_at_a_slow_service, given_up_and_served, life_used_twice, narrow, no_room_for_a_reply, reply_given_up, reply_late, request_lost, server_restarts_before_its_reply, short_of_room, tail_and_head_lost};
 ghost use Rattle.dt_service_model.specs.Worked.{Happens, IsMade, IsReplied, five, on_main, rest_after, told_by, usual};

@@ -154,9 +154,9 @@ pub const DT_INVALID_TOTAL: u8 = 5;
 // `enum dt_event_kind`
 /// answer it: `call`, `flow`, and `len` octets of payload
 pub const DT_EVENT_REQUEST: u8 = 1;
-/// your call ended with `len` octets of answer: `call`
+/// your call ended with `len` octets of answer: `call`, `user`
 pub const DT_EVENT_ANSWERED: u8 = 2;
-/// it ended without: it was served once or not at all, or still will be: `call`, `cause`
+/// it ended without: it was served once or not at all, or still will be: `call`, `user`, `cause`
 pub const DT_EVENT_UNSURE: u8 = 3;
 /// replies to requests of `flow` were given up: each was delivered once or not at all, and its caller gets no
 /// report. Reported again for this flow only after this event was taken
@@ -826,6 +826,8 @@ pub struct dt_event {
     /// enum dt_cause, else 0
     pub cause: u8,
     pub call: u64,
+    /// what you passed to dt_service_call for the call that ended; else 0
+    pub user: u64,
     pub len: usize,
     /// of a request, or of the requests of uncertain replies; else 0
     pub flow: dt_flow,
@@ -839,6 +841,7 @@ impl dt_event {
             kind: 0,
             cause: 0,
             call: 0,
+            user: 0,
             len: 0,
             flow: dt_flow::new(),
         }
@@ -1338,12 +1341,14 @@ extern "C" {
     /// - `DT_EXISTS`: the port has a kind
     pub fn dt_service_set_port(service: *mut dt_service, port: u16, kind: u8) -> dt_status;
 
-    /// Makes a call on a flow from a caller's port. It ends, by an event with its number, in the first call with a
-    /// `now` of `timeout_ms` or more after this one, at the latest.
+    /// Makes a call on a flow from a caller's port. It ends, by an event with its number and with `user` (a
+    /// pointer, an index, or 0: the library doesn't look at it), in the first call with a `now` of `timeout_ms` or
+    /// more after this one, at the latest.
     ///
     /// - `DT_OK`: `call` is its number
     /// - `DT_NO_MEMORY`: the service is stopped. The call may have been made, so take it as unsure; if it was, an
-    ///   event says so
+    ///   event with `user` says so. Where there was no memory for `user` itself, nothing changed, and the service
+    ///   goes on
     /// - `DT_NOT_OPEN`
     /// - `DT_STOPPED`: nothing changed
     /// - `DT_INVALID`: `invalid` says why; nothing changed
@@ -1358,6 +1363,7 @@ extern "C" {
         payload: *const u8,
         len: usize,
         timeout_ms: u32,
+        user: u64,
     ) -> dt_call_result;
 
     /// Replies to a request, once.

@@ -58,11 +58,6 @@ fn serve() -> Result<(), Box<dyn Error>> {
     }
 }
 
-/// The place of a call among those of its life, which is the lower half of its number.
-fn place_of(call: u64) -> usize {
-    call as u32 as usize
-}
-
 fn ask(life: u32, words: &[String]) -> Result<(), Box<dyn Error>> {
     let (mut udp, mut buf) = (open(1, life, 10, PortKind::Caller)?, vec![0; MAX_PAYLOAD]);
     let flow = Flow { source: 1, target: 2, source_port: 10, target_port: 20 };
@@ -71,11 +66,11 @@ fn ask(life: u32, words: &[String]) -> Result<(), Box<dyn Error>> {
         let at = udp.turn()?;
         while let Some(event) = udp.node.next_event(&mut buf)? {
             match event {
-                Event::Answered { call, len } => {
-                    println!("{}: {}", words[place_of(call)], String::from_utf8_lossy(&buf[..len]));
+                Event::Answered { user, len, .. } => {
+                    println!("{}: {}", words[user as usize], String::from_utf8_lossy(&buf[..len]));
                 }
-                Event::Unsure { call, cause } => {
-                    eprintln!("calls: {} may have been served: {cause:?}", words[place_of(call)]);
+                Event::Unsure { user, cause, .. } => {
+                    eprintln!("calls: {} may have been served: {cause:?}", words[user as usize]);
                     unsure += 1;
                 }
                 _ => continue,
@@ -83,7 +78,7 @@ fn ask(life: u32, words: &[String]) -> Result<(), Box<dyn Error>> {
             ended += 1;
         }
         while made < words.len() {
-            match udp.node.call(at, flow, words[made].as_bytes(), TIMEOUT_MS) {
+            match udp.node.call(at, flow, words[made].as_bytes(), TIMEOUT_MS, made as u64) {
                 Ok(_) => made += 1,
                 // in a later turn
                 Err(Declined::Quiet { .. } | Declined::Full { .. } | Declined::TooManyCalls) => {

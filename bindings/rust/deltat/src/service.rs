@@ -101,6 +101,8 @@ pub enum Event {
     Answered {
         /// The number of the call.
         call: u64,
+        /// What was passed to [`Service::call`] with it.
+        user: u64,
         /// The octets of the answer.
         len: usize,
     },
@@ -108,6 +110,8 @@ pub enum Event {
     Unsure {
         /// The number of the call.
         call: u64,
+        /// What was passed to [`Service::call`] with it.
+        user: u64,
         /// Why it ended.
         cause: Cause,
     },
@@ -128,9 +132,11 @@ impl Event {
                 token: Token { call: it.call, flow: Flow::of_c(it.flow) },
                 len: it.len,
             },
-            sys::DT_EVENT_ANSWERED => Event::Answered { call: it.call, len: it.len },
+            sys::DT_EVENT_ANSWERED => {
+                Event::Answered { call: it.call, user: it.user, len: it.len }
+            }
             sys::DT_EVENT_UNSURE => {
-                Event::Unsure { call: it.call, cause: Cause::of_c(it.cause) }
+                Event::Unsure { call: it.call, user: it.user, cause: Cause::of_c(it.cause) }
             }
             sys::DT_EVENT_REPLY_UNCERTAIN => Event::ReplyUncertain { flow: Flow::of_c(it.flow) },
             other => Event::Unknown(other),
@@ -176,8 +182,9 @@ impl Endpoint<Calls> {
         Error::check(unsafe { sys::dt_service_set_port(self.handle()?, port, kind) })
     }
 
-    /// Makes a call on a flow from a caller's port, and returns its number. It ends by an event with
-    /// this number, at the latest in the first call that takes a time of `timeout_ms` or more after this one.
+    /// Makes a call on a flow from a caller's port, and returns its number. It ends by an event with this
+    /// number and with `user`, which the library doesn't look at: at the latest in the first call that takes
+    /// a time of `timeout_ms` or more after this one.
     /// First does what is due at `now`. Put the datagrams that it made on the wire.
     ///
     /// # Errors
@@ -190,12 +197,13 @@ impl Endpoint<Calls> {
         flow: Flow,
         payload: &[u8],
         timeout_ms: u32,
+        user: u64,
     ) -> Result<u64, Declined> {
         let handle = self.handle()?;
         let (flow, len) = (flow.to_c(), payload.len());
         // SAFETY: as in `set_port`; pointer and length are those of a slice.
         let it = unsafe {
-            sys::dt_service_call(handle, now, &flow, payload.as_ptr(), len, timeout_ms)
+            sys::dt_service_call(handle, now, &flow, payload.as_ptr(), len, timeout_ms, user)
         };
         match it.status {
             sys::DT_QUIET => Err(Declined::Quiet { until: it.quiet_until }),

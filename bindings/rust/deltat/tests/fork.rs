@@ -22,7 +22,7 @@ fn is_refused(one: &mut Node, client: &mut Service) -> bool {
         && one.counts().is_err()
         && client.tick(2) == other
         && client.stop() == other
-        && client.call(2, FLOW, b"a", 300) == Err(Declined::Error(Error::OtherProcess))
+        && client.call(2, FLOW, b"a", 300, 0) == Err(Declined::Error(Error::OtherProcess))
         && client.next_event(&mut []).is_err()
 }
 

@@ -14,5 +14,5 @@ use Rattle.dt_c.proofs.service_exports.dt_service_call.Code as code
 use Rattle.dt_c.proofs.service_slots.ServiceSlot.call.Met.{met}
 
 pub dt_service_call_spec : {M : Type 1} → statement M
-dt_service_call_spec 𝓤 𝓛 𝓜 𝓡 wired = exported 𝓛 𝓜 𝓡 R (record { row = Q; lawful = the_row_laws.lawful 𝓛; one = refl }) 2 (λ κs. number w64 & shared (named 0) κs.0 CFlow & items (named 1) κs.1.0 u8 & number w32 & none)
-    (λ κs a x row h ws. Calling row a.0 a.1.0.now a.1.1.0.now a.1.1.1.0 x h) (λ κs. tt) (λ κs. code.unfolded 𝓤 𝓛.H 𝓜 𝓡 wired) (met 𝓤 𝓛 𝓜 𝓡 (code.calls-dt_c::service_slots::ServiceSlot::call 𝓡.env wired))
+dt_service_call_spec 𝓤 𝓛 𝓜 𝓡 wired = exported 𝓛 𝓜 𝓡 R (record { row = Q; lawful = the_row_laws.lawful 𝓛; one = refl }) 2 (λ κs. number w64 & shared (named 0) κs.0 CFlow & items (named 1) κs.1.0 u8 & number w32 & number w64 & none)
+    (λ κs a x row h ws. Calling row a.0 a.1.0.now a.1.1.0.now a.1.1.1.0 a.1.1.1.1.0 x h) (λ κs. tt) (λ κs. code.unfolded 𝓤 𝓛.H 𝓜 𝓡 wired) (met 𝓤 𝓛 𝓜 𝓡 (code.calls-dt_c::service_slots::ServiceSlot::call 𝓡.env wired))

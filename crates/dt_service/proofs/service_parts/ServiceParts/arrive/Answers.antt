@@ -9,7 +9,7 @@ use Rattle.dt_service.proofs.service_parts.ServiceParts.arrive.Goals as goal
 pub returns-in_err-refusal-clause-stops : goal.returns-in_err-refusal-clause-stops
 returns-in_err-refusal-clause-stops c =
     let p = c.args.self.now in let e = c.receive.new.endpoint in
-    on_err c.from_residual.result (ArriveStops c.args.now c.args.link c.args.datagram.now c.args.waited (node_in p) (node_of e p.halves))
+    on_err c.from_residual.result (ArriveStops c.args.now c.args.link c.args.datagram.now c.args.waited (node_in p) (node_of e p.book))
     (record { clear = sym c.is_closed.ensures ∙ c.if-is_closed.false; unrefused = c.in_err-refusal.ensures.unrefused; turn = in_event (breaks_off e c.in_err-refusal.ensures.cut refl) })
 
 pub returns-in_err-finish-clause-stops : goal.returns-in_err-finish-clause-stops

@@ -8,8 +8,8 @@ use Rattle.dt_service.proofs.service_parts.ServiceParts.tick.Goals as goal
 pub returns-in_err-pass-clause-stops : goal.returns-in_err-pass-clause-stops
 returns-in_err-pass-clause-stops c =
     let p = c.args.self.now in let e = c.pass.new.endpoint in
-    on_err c.from_residual.result (TickStops c.args.now (node_in p) (node_of e p.halves))
-    (record { clear = sym c.is_closed.ensures ∙ c.if-is_closed.false; turn = turn_cut_off c.args.now Tick (λ h. h) (node_in p) (node_of e p.halves) e c.in_err-pass.ensures.cut refl })
+    on_err c.from_residual.result (TickStops c.args.now (node_in p) (node_of e p.book))
+    (record { clear = sym c.is_closed.ensures ∙ c.if-is_closed.false; turn = turn_cut_off c.args.now Tick (λ h. h) (node_in p) (node_of e p.book) e c.in_err-pass.ensures.cut refl })
 
 pub returns-in_err-finish-clause-stops : goal.returns-in_err-finish-clause-stops
 returns-in_err-finish-clause-stops c =

@@ -1,5 +1,5 @@
 use Rattle.std.proofs.Common.{ap, inr, refl, subst}
-use Rattle.dt_service_model.specs.Halves.{Halves}
+use Rattle.dt_service_model.specs.CallBook.{CallBook}
 use Rattle.dt_service_model.specs.Stopping.{ForgetStops}
 use Rattle.dt_service_model.specs.Turns.{Node}
 use Rattle.dt_service.specs.Nodes.{node_in, node_of}
@@ -8,4 +8,4 @@ use Rattle.dt_service.proofs.services.Service.forget.Goals as goal
 pub returns-in-Err : goal.returns-in-Err
 returns-in-Err c =
     let p = c.forget.new.self in
-    record { ends = inr (refl, record { stopped = node_in p; stops = subst (λ (n : Node). ForgetStops c.args.now c.args.token.now n (node_in p)) c.self.view_is c.in-Err.ensures.stops; closed = ap (λ (h : Halves). node_of p.endpoint h) c.close.ensures }) }
+    record { ends = inr (refl, record { stopped = node_in p; stops = subst (λ (n : Node). ForgetStops c.args.now c.args.token.now n (node_in p)) c.self.view_is c.in-Err.ensures.stops; closed = ap (λ (h : CallBook). node_of p.endpoint h) c.close.ensures }) }

@@ -1,6 +1,6 @@
 use Rattle.std.proofs.Common.{ap, inl, inr, refl, subst}
 use Rattle.dt_service_model.specs.Asked.{reply}
-use Rattle.dt_service_model.specs.Halves.{Halves}
+use Rattle.dt_service_model.specs.CallBook.{CallBook}
 use Rattle.dt_service_model.specs.Stopping.{ReplyStops}
 use Rattle.dt_service_model.specs.Turns.{Node}
 use Rattle.dt_service.specs.Nodes.{Is, node_in, node_of}
@@ -14,4 +14,4 @@ returns-in-Ok c =
 pub returns-in-Err : goal.returns-in-Err
 returns-in-Err c =
     let p = c.reply.new.self in
-    record { ends = inr (refl, record { stopped = node_in p; stops = subst (λ (n : Node). ReplyStops c.args.now c.args.token c.args.payload.now n (node_in p)) c.self.view_is c.in-Err.ensures.stops; closed = ap (λ (h : Halves). node_of p.endpoint h) c.close.ensures }) }
+    record { ends = inr (refl, record { stopped = node_in p; stops = subst (λ (n : Node). ReplyStops c.args.now c.args.token c.args.payload.now n (node_in p)) c.self.view_is c.in-Err.ensures.stops; closed = ap (λ (h : CallBook). node_of p.endpoint h) c.close.ensures }) }

@@ -1,0 +1,174 @@
+//! What is asked of a call book.
+ghost use Rattle.std.specs.Prelude.{◌≡◌, ◌<◌, ◌≤◌, ◌^◌, ◌==◌, ◌&&◌, MatchOption, OnErr, OnOk, filter, nat_lt, not};
+ghost use Rattle.std.specs.List.{list_any};
+ghost use Rattle.dt_world_model.specs.Tables.{same_flow};
+ghost use Rattle.dt_service_model.specs.declared.calls.OpenCall.{OpenCall};
+ghost use Rattle.dt_service_model.specs.Asked.{forgotten, is_life_in_use, next_number, raised, with_call};
+ghost use Rattle.dt_service_model.specs.Carrying.{carried_by, next_size};
+ghost use Rattle.dt_service_model.specs.Ends.{next};
+ghost use Rattle.dt_service_model.specs.CallBook.{calls_held};
+ghost use Rattle.dt_service_model.specs.Turns.{done_with};
+ghost use Rattle.dt_service_model.specs.Whole.{is_open};
+
+use crate::call_book::CallBook;
+use crate::counting::{ends_in, is_same, waiting_in};
+use crate::whole::{drop_token, is_open};
+use dt_items::NoMemory;
+use dt_service_model::{CallCounts, CallNumber, Cause, Happening, OpenCall, Token};
+use dt_units::Flow;
+
+fn is_in_use(life: u32, call: &OpenCall) -> bool
+    ensures { result ≡ (call.now.waits && (call.now.number.life == life)) }
+{
+    call.waits && call.number.life == life
+}
+
+/// Whether a call with this life waits.
+fn waits_with(life: u32, calls: &[OpenCall]) -> bool
+    ensures { result ≡ list_any (λ (call : OpenCall). call.waits && (call.number.life == life)) calls.now }
+{
+    calls.iter().any(|call| is_in_use(life, call))
+}
+
+/// A flow is to be read no more.
+fn drop_flow(flow: &Flow, flows: &mut Vec<Flow>)
+    ensures { flows.new.items ≡ filter (λ g. not (same_flow g flow.now)) flows.old.items }
+{
+    flows.retain(|other| !is_same(other, flow));
+}
+
+/// What a happening carries: the payload of a request, or an answer.
+pub fn carried(happening: &Happening) -> &[u8]
+    ensures { result.now ≡ carried_by happening.now }
+{
+    match happening {
+        Happening::Request { payload, .. } => payload.octets.as_slice(),
+        Happening::Answered { answer, .. } => answer.octets.as_slice(),
+        Happening::Unsure { .. } | Happening::ReplyUncertain { .. } => &[],
+    }
+}
+
+impl CallBook {
+    /// The number of the next call, or none where each number of this life was used: a life is to be
+    /// raised then.
+    pub fn next_number(&self) -> Option<CallNumber>
+        ensures { MatchOption result (2 ^ 32 ≤ self.now.count) (λ number. (self.now.count < 2 ^ 32) × (number ≡ next_number self.now)) }
+    {
+        if self.count >= 4_294_967_296 {
+            return None;
+        }
+        Some(CallNumber {
+            life: self.life,
+            count: self.count as u32,
+        })
+    }
+
+    /// Whether one call more may wait, beside those that wait and the ends that weren't taken. The cost is
+    /// a look at each of them.
+    pub fn has_room_for_call(&self) -> bool
+        ensures { result ≡ nat_lt (calls_held self.now) self.now.most.calls }
+    {
+        waiting_in(&self.calls) + ends_in(&self.happenings) < self.most.calls as usize
+    }
+
+    /// A call is made whose request of so many octets was taken. It waits until the deadline, a moment in
+    /// milliseconds. `NoMemory` leaves all as it was.
+    pub fn add_call(&mut self, flow: Flow, count: u32, deadline: u64) -> Result<(), NoMemory>
+        requires { self.old.count < 2 ^ 32 }
+        ensures made { OnOk result (self.new ≡ with_call flow count deadline self.old) }
+        ensures same { OnErr result (self.new ≡ self.old) }
+    {
+        let number = CallNumber {
+            life: self.life,
+            count: self.count as u32,
+        };
+        self.calls.push(OpenCall {
+            number,
+            flow,
+            deadline,
+            left: count,
+            waits: true,
+            has_given_up: false,
+        })?;
+        self.count += 1;
+        Ok(())
+    }
+
+    /// Whether a request of this name was handed out and has no reply yet.
+    pub fn is_open(&self, token: &Token) -> bool
+        ensures { result ≡ is_open token.now self.now }
+    {
+        is_open(token, &self.tokens)
+    }
+
+    /// The token is open no more.
+    pub fn forget(&mut self, token: &Token)
+        ensures { self.new ≡ forgotten token.now self.old }
+    {
+        drop_token(token, &mut self.tokens);
+    }
+
+    /// A life is raised, and calls are counted from 0 again. Nothing changes where it is the life of the
+    /// node, or of a call that waits; what waits goes on waiting by its own number.
+    pub fn raise(&mut self, life: u32) -> bool
+        ensures raised { self.new ≡ raised life self.old }
+        ensures answer { result ≡ not (is_life_in_use life self.old) }
+    {
+        if life == self.life || waits_with(life, &self.calls) {
+            return false;
+        }
+        self.life = life;
+        self.count = 0;
+        true
+    }
+
+    /// The flows at which something may be unread, in the order in which they came in.
+    pub fn unread(&self) -> &[Flow]
+        ensures { result.now ≡ self.now.unread }
+    {
+        &self.unread
+    }
+
+    /// Nothing of a flow is unread.
+    pub fn done_with(&mut self, flow: &Flow)
+        ensures { self.new ≡ done_with flow.now self.old }
+    {
+        drop_flow(flow, &mut self.unread);
+    }
+
+    /// What was reported first of all that wasn't taken. It is taken with this. Once all is, a closed node
+    /// hands out that each call that waited is unsure.
+    pub fn next_happening(&mut self) -> Option<Happening>
+        ensures first { result ≡ (next self.old).0 }
+        ensures others { self.new ≡ (next self.old).1 }
+    {
+        if let Some(happening) = self.happenings.pop_front() {
+            return Some(happening);
+        }
+        if !self.closed || self.calls.is_empty() {
+            return None;
+        }
+        let call = self.calls.remove(0).number;
+        let cause = Cause::Closed;
+        Some(Happening::Unsure { call, cause })
+    }
+
+    /// How many octets what [`CallBook::next_happening`] would take carries, or none where it would take
+    /// nothing.
+    pub fn next_size(&self) -> Option<usize>
+        ensures { result ≡ next_size self.now }
+    {
+        match self.happenings.front() {
+            Some(happening) => Some(carried(happening).len()),
+            None if self.closed && !self.calls.is_empty() => Some(0),
+            None => None,
+        }
+    }
+
+    /// How many messages were dropped, by cause.
+    pub fn counts(&self) -> CallCounts
+        ensures { result ≡ self.now.counts }
+    {
+        self.counts
+    }
+}

@@ -1,0 +1,67 @@
+//! What a node has beside its endpoint.
+ghost use Rattle.std.specs.Prelude.{◌≡◌};
+ghost use Rattle.dt_service_model.specs.declared.ports.Most.{Most};
+ghost use Rattle.dt_service_model.specs.CallBook.{new_book};
+
+use crate::begun_messages::BegunMessage;
+use dt_service_model::{CallCounts, Happening, Most, OpenCall, Port, Token};
+use dt_units::Flow;
+use std::alloc::Global;
+use std::collections::VecDeque;
+use std::marker::Model;
+
+/// The open calls of a caller and the open requests of a service, and what wasn't taken of what happened.
+#[derive(Drop)]
+pub struct CallBook {
+    pub(crate) most: Most,
+    pub(crate) closed: bool,
+    pub(crate) ports: Vec<Port>,
+    pub(crate) life: u32,
+    /// How many calls were made in this life: 2^32 at most.
+    pub(crate) count: u64,
+    pub(crate) calls: Vec<OpenCall>,
+    pub(crate) tokens: Vec<Token>,
+    pub(crate) begun: Vec<BegunMessage>,
+    pub(crate) unread: Vec<Flow>,
+    pub(crate) counts: CallCounts,
+    pub(crate) happenings: VecDeque<Happening>,
+}
+
+impl Model for CallBook {
+    ghost use Rattle.dt_service_model.specs.CallBook as book;
+
+    ghost Value = { book.CallBook };
+
+    ghost view = { λ h. record { most = h.most; closed = h.closed; ports = h.ports.items; life = h.life; count = h.count; calls = h.calls.items; tokens = h.tokens.items; begun = h.begun.items; unread = h.unread.items; counts = h.counts; happenings = h.happenings.items } };
+}
+
+const NO_COUNTS: CallCounts = CallCounts {
+    late: 0,
+    old: 0,
+    strange: 0,
+    reused: 0,
+    cut: 0,
+    long: 0,
+    short: 0,
+};
+
+impl CallBook {
+    /// The book of a node that opens with this life.
+    pub fn new(alloc: Global, most: Most, life: u32) -> CallBook
+        ensures { result ≡ new_book most life }
+    {
+        CallBook {
+            most,
+            closed: false,
+            ports: Vec::new(alloc),
+            life,
+            count: 0,
+            calls: Vec::new(alloc),
+            tokens: Vec::new(alloc),
+            begun: Vec::new(alloc),
+            unread: Vec::new(alloc),
+            counts: NO_COUNTS,
+            happenings: VecDeque::new(alloc),
+        }
+    }
+}

@@ -1,0 +1,205 @@
+//! What a whole message is: at a caller the reply to a call, and at a service a request.
+ghost use Rattle.std.specs.Prelude.{◌≡◌, ◌&&◌, Some, IfOk, OnErr, OnOk, filter, is_some, not, option_map};
+ghost use Rattle.std.specs.List.{list_any, position};
+ghost use Rattle.dt_messages.specs.Joining.{piece_with, whole_within, within};
+ghost use Rattle.dt_service_model.specs.CallBook.{counted_up, longest_message};
+ghost use Rattle.dt_service_model.specs.Names.{same_number, same_token};
+ghost use Rattle.dt_service_model.specs.Whole.{begun_of, grown, is_waiting_call, stray_counted, take_message, take_piece, take_reply, take_request, waits_anywhere, without_token};
+
+use crate::begun_messages::{joined, put_begun, take_begun};
+use crate::call_book::CallBook;
+use crate::counting::is_same;
+use crate::ends::end_at;
+use crate::ports::kind_in;
+use dt_items::NoMemory;
+use dt_messages::{Marks, read_message, reversed};
+use dt_service_model::{CallNumber, Happening, OpenCall, Payload, PortKind, Token};
+use dt_units::Flow;
+use std::alloc::Global;
+
+/// The most octets of a message.
+pub const LONGEST_MESSAGE: usize = 65_536;
+
+fn counted_up(count: u64) -> u64
+    ensures { result ≡ counted_up count }
+{
+    count.saturating_add(1)
+}
+
+fn same_number(one: CallNumber, other: CallNumber) -> bool
+    ensures { result ≡ same_number one other }
+{
+    one.life == other.life && one.count == other.count
+}
+
+fn same_token(one: &Token, other: &Token) -> bool
+    ensures { result ≡ same_token one.now other.now }
+{
+    is_same(&one.flow, &other.flow) && same_number(one.number, other.number)
+}
+
+/// Whether the name is among these.
+pub fn is_open(token: &Token, tokens: &[Token]) -> bool
+    ensures { result ≡ list_any (same_token token.now) tokens.now }
+{
+    tokens.iter().any(|other| same_token(token, other))
+}
+
+/// The name is among these no more.
+pub fn drop_token(token: &Token, tokens: &mut Vec<Token>)
+    ensures { tokens.new.items ≡ without_token token.now tokens.old.items }
+{
+    tokens.retain(|other| !same_token(token, other));
+}
+
+fn is_waiting_call(flow: &Flow, number: CallNumber, call: &OpenCall) -> bool
+    ensures { result ≡ is_waiting_call flow.now number call.now }
+{
+    call.waits && same_number(call.number, number) && is_same(&call.flow, flow)
+}
+
+/// Where the call of this number that waits on a flow stands.
+fn place_of(flow: &Flow, number: CallNumber, calls: &[OpenCall]) -> Option<usize>
+    ensures { result ≡ position (is_waiting_call flow.now number) calls.now }
+{
+    calls
+        .iter()
+        .position(|call| is_waiting_call(flow, number, call))
+}
+
+fn is_waiting_with(number: CallNumber, call: &OpenCall) -> bool
+    ensures { result ≡ (call.now.waits && same_number call.now.number number) }
+{
+    call.waits && same_number(call.number, number)
+}
+
+/// Whether a call of this number waits.
+fn waits_anywhere(number: CallNumber, calls: &[OpenCall]) -> bool
+    ensures { result ≡ waits_anywhere number calls.now }
+{
+    calls.iter().any(|call| is_waiting_with(number, call))
+}
+
+/// A message that isn't too long, and whether it was.
+fn fit(octets: Option<Vec<u8>>) -> (Option<Vec<u8>>, bool)
+    ensures fitting { option_map (λ o. o.items) result.0 ≡ within (Some longest_message) (option_map (λ o. o.items) octets) }
+    ensures long { result.1 ≡ (is_some octets && not (is_some (within (Some longest_message) (option_map (λ o. o.items) octets)))) }
+{
+    match octets {
+        Some(octets) if octets.len() <= LONGEST_MESSAGE => (Some(octets), false),
+        Some(_) => (None, true),
+        None => (None, false),
+    }
+}
+
+impl CallBook {
+    /// A piece that was read goes on what was begun of its flow, and the message that it makes whole is
+    /// taken. After `NoMemory` nothing is said of what was begun.
+    pub fn take_piece(
+        &mut self,
+        alloc: Global,
+        flow: Flow,
+        marks: Marks,
+        octets: &[u8],
+    ) -> Result<(), NoMemory>
+        ensures taken { OnOk result (self.new ≡ take_piece flow (piece_with marks octets.now) self.old) }
+        ensures same { OnErr result (self.new ≡ record self.old { begun = self.new.begun; counts = self.new.counts }) }
+    {
+        let Some(message) = self.grow(alloc, flow, marks, octets)? else {
+            return Ok(());
+        };
+        self.take_message(alloc, flow, &message)
+    }
+
+    /// A piece goes on what was begun. Answers the message that it makes whole, if it does.
+    fn grow(
+        &mut self,
+        alloc: Global,
+        flow: Flow,
+        marks: Marks,
+        octets: &[u8],
+    ) -> Result<Option<Vec<u8>>, NoMemory>
+        ensures whole { IfOk result (λ whole. option_map (λ o. o.items) whole ≡ whole_within (Some longest_message) (begun_of flow self.old) (piece_with marks octets.now)) }
+        ensures grown { OnOk result (self.new ≡ grown flow (begun_of flow self.old) (piece_with marks octets.now) self.old) }
+        ensures same { OnErr result (self.new ≡ record self.old { begun = self.new.begun; counts = self.new.counts }) }
+    {
+        let begun = take_begun(&mut self.begun, &flow);
+        let is_cut = begun.is_some() && (marks.begin || marks.run);
+        let (octets, is_long) = fit(joined(alloc, begun, marks, octets)?);
+        if is_cut {
+            self.counts.cut = counted_up(self.counts.cut);
+        }
+        if is_long {
+            self.counts.long = counted_up(self.counts.long);
+        }
+        if marks.end {
+            return Ok(octets);
+        }
+        put_begun(&mut self.begun, flow, octets)?;
+        Ok(None)
+    }
+
+    /// A whole message is taken.
+    fn take_message(&mut self, alloc: Global, flow: Flow, message: &[u8]) -> Result<(), NoMemory>
+        ensures taken { OnOk result (self.new ≡ take_message flow message.now self.old) }
+        ensures same { OnErr result (self.new ≡ self.old) }
+    {
+        let Some((number, carried)) = read_message(message) else {
+            self.counts.short = counted_up(self.counts.short);
+            return Ok(());
+        };
+        let number = CallNumber::from_u64(number);
+        let octets = Vec::from_slice(alloc, carried)?;
+        let payload = Payload { octets };
+        match kind_in(flow.to_port, &self.ports) {
+            Some(PortKind::Caller) => self.take_reply(&reversed(flow), number, payload),
+            Some(PortKind::Service) => self.take_request(Token { flow, number }, payload),
+            None => Ok(()),
+        }
+    }
+
+    /// A reply comes to the call of this number that waits on a flow, or is dropped and counted.
+    fn take_reply(&mut self, flow: &Flow, call: CallNumber, answer: Payload) -> Result<(), NoMemory>
+        ensures taken { OnOk result (self.new ≡ take_reply flow.now call answer self.old) }
+        ensures same { OnErr result (self.new ≡ self.old) }
+    {
+        let Some(place) = place_of(flow, call, &self.calls) else {
+            self.count_stray(call);
+            return Ok(());
+        };
+        self.happenings
+            .push_back(Happening::Answered { call, answer })?;
+        end_at(place, &mut self.calls);
+        Ok(())
+    }
+
+    /// A reply that no call of its flow waits for is counted.
+    fn count_stray(&mut self, number: CallNumber)
+        ensures { self.new ≡ record self.old { counts = stray_counted number self.old } }
+    {
+        if number.life != self.life {
+            self.counts.old = counted_up(self.counts.old);
+        } else if u64::from(number.count) < self.count && !waits_anywhere(number, &self.calls) {
+            self.counts.late = counted_up(self.counts.late);
+        } else {
+            self.counts.strange = counted_up(self.counts.strange);
+        }
+    }
+
+    /// A request is handed out, unless its name is open already.
+    fn take_request(&mut self, token: Token, payload: Payload) -> Result<(), NoMemory>
+        ensures taken { OnOk result (self.new ≡ take_request token payload self.old) }
+        ensures same { OnErr result (self.new ≡ self.old) }
+    {
+        if is_open(&token, &self.tokens) {
+            drop_token(&token, &mut self.tokens);
+            self.counts.reused = counted_up(self.counts.reused);
+            return Ok(());
+        }
+        self.tokens.reserve(1)?;
+        self.happenings
+            .push_back(Happening::Request { token, payload })?;
+        self.tokens.push_reserved(token);
+        Ok(())
+    }
+}
