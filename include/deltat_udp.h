@@ -221,15 +221,20 @@ dt_status dt_udp_open_port(dt_udp *udp, uint16_t port, uint8_t kind);
 const struct dt_udp_event *dt_udp_next_event(dt_udp *udp, int wait_ms);
 
 /* Sends a whole message of 1 to params.cap octets; of a node. As dt_node_send.
+ *   DT_FULL      also: as much is under way to the target as its delay allows; DT_UDP_EVENT_ROOM follows
  *   DT_NOT_OPEN  also: the driver is a service's, failed, or is in a forked child */
 struct dt_send_result dt_udp_send(dt_udp *udp, const struct dt_flow *flow, const void *octets, size_t len);
 
-/* Makes a call, which ends within `timeout_ms` by an event; of a service. As dt_service_call.
+/* Makes a call, which ends within `timeout_ms` by an event; of a service. As dt_service_call. If as much is under way
+ * to the target as its delay allows, the call waits in the driver, in the order of the calls, and its time passes.
+ *   DT_FULL      also: options.max_waiting octets wait already; DT_UDP_EVENT_ROOM follows
  *   DT_NOT_OPEN  also: the driver is a node's, failed, or is in a forked child */
 struct dt_call_result dt_udp_call(dt_udp *udp, const struct dt_flow *flow, const void *octets, size_t len,
                            uint32_t timeout_ms);
 
-/* Replies to a request, once; of a service. `octets` may be those of the event. As dt_service_reply. */
+/* Replies to a request, once; of a service. `octets` may be those of the event. As dt_service_reply. A reply may wait
+ * in the driver as a call does; then DT_OK says only that it was kept, and a second one for the same request is
+ * dropped in silence. DT_FULL: as for a call. */
 struct dt_reply_result dt_udp_reply(dt_udp *udp, const struct dt_token *token, const void *octets, size_t len);
 
 /* Ends a request without a reply, so that there is room for another; of a service. As dt_service_forget. */

@@ -197,13 +197,13 @@ LINKS = {
     "copies": (Link({"delay": 1000, "copy": 100, "lose": 50}, QUICK, SMALL, after=5),),
     "kept": (Link({"delay": 1000, "keep": 100}, QUICK, SMALL, after=5),),
     "other_r": (Link({"delay": 1000, "deaf": 700}, QUICK, SMALL | {"r": 2000}, {"r": 50}),),
-    "held": (Link({"delay": 1000, "lose": 200}, QUICK, SMALL | {"held": 5, "seconds": 8}),),
+    "held": (Link({"delay": 1000, "lose_back": 3000}, QUICK, SMALL | {"held": 20, "seconds": 8}),),
     "again": (Link({"delay": 1000, "copy": 200}, QUICK, SMALL | {"seconds": 8}, after=5, restart=2),),
-    "clock": (Link({"delay": 1000, "lose": 300}, QUICK, SMALL | {"seconds": 6}, stops=5),),
+    "clock": (Link({"delay": 1000, "lose": 1500}, QUICK, SMALL | {"seconds": 8}, stops=8),),
 }
 # which counter has the cause
 COUNTERS = {
-    "disk": "too_old", "copies": "too_old", "kept": "too_old", "other_r": "other_parameters", "held": "too_old",
+    "disk": "answered", "copies": "too_old", "kept": "too_old", "other_r": "other_parameters", "held": "too_old",
     "again": "too_old", "clock": "clock_alarms",
 }
 

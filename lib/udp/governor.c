@@ -21,6 +21,22 @@ enum {
 
 /* --- what is under way */
 
+/* Takes off octets that were given up: first of peers from which nothing came for rto, then of any. (Seldom, so all
+ * peers may be gone through.) */
+static void take_off(dt_udp *u, uint64_t octets) {
+    uint64_t silent_us = dtu_clock_us() - 1000 * (uint64_t)u->options.params->rto;
+    for (int any = 0; any < 2 && octets; any++)
+        for (size_t i = 0; i < u->peers.size && octets; i++)
+            for (struct peer *peer = u->peers.buckets[i]; peer && octets; peer = peer->next) {
+                struct watch *it = peer->watch;
+                if (it == NULL || (!any && it->governor.heard_us > silent_us)) continue;
+                uint64_t off = octets < it->under_way ? octets : it->under_way;
+                it->under_way -= off;
+                u->governing.counted -= off;
+                octets -= off;
+            }
+}
+
 /* Takes over what the node's counters say after an input that a peer caused, or nobody (null). */
 void dtu_govern_count(dt_udp *u, struct peer *peer) {
     struct governing *g = &u->governing;
@@ -38,15 +54,7 @@ void dtu_govern_count(dt_udp *u, struct peer *peer) {
         it->under_way -= own;
         g->counted -= own;
     }
-    if (queued == settled && g->counted) { /* (seldom: something was given up) */
-        dtu_peers_each(&u->peers, dtu_govern_forget);
-        g->counted = 0;
-    }
-}
-
-/* Nothing is under way to a peer. */
-void dtu_govern_forget(struct peer *peer) {
-    if (peer->watch) peer->watch->under_way = 0;
+    if (g->counted > queued - settled) take_off(u, g->counted - (queued - settled));
 }
 
 /* --- the window */
@@ -310,7 +318,9 @@ void dtu_govern_release(dt_udp *u) {
 }
 
 /* When the governor wants to be called: while something waits, each millisecond, since the pace may let it in. */
-uint64_t dtu_govern_wake(const dt_udp *u, uint64_t now) { return u->governing.waiting ? now + 1 : DT_NEVER; }
+uint64_t dtu_govern_wake(const dt_udp *u, uint64_t now) {
+    return u->governing.waiting || u->governing.object_waits ? now + 1 : DT_NEVER;
+}
 
 /* --- opening and closing */
 

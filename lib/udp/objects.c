@@ -187,6 +187,7 @@ static dt_status send_on(dt_udp *u, uint32_t target, uint16_t port, const struct
     if (!dtu_begin(u, us)) return u->failed;
     dt_status status = dtu_core_send(&u->core, us / 1000, &flow, message).status;
     dtu_judge(u);
+    dtu_govern_count(u, dtu_peers_find(&u->peers, target));
     return status;
 }
 
@@ -218,10 +219,18 @@ static struct sending *has_chunk(const struct target *to) {
     return NULL;
 }
 
+/* Whether a chunk of an object may be handed in now, by what is under way to its target. */
+static bool may_enter(dt_udp *u, const struct sending *it) {
+    bool may = dtu_govern_admits(u, dtu_peers_find(&u->peers, it->to->node), it->chunk);
+    if (!may) u->governing.object_waits = true;
+    return may;
+}
+
 /* Fills the lanes of a target that have room, one chunk each in turn, with at most so many chunks. */
 static void fill(dt_udp *u, struct target *to, unsigned *left) {
     for (struct sending *it;
          *left > 0 && to->under_way < u->objects.window && to->ready && !u->failed && (it = has_chunk(to)) != NULL;) {
+        if (!may_enter(u, it)) return;
         struct lane *lane = to->ready;
         uint32_t index = it->again_count ? it->again[it->again_count - 1] : it->begun;
         bool sent = send_chunk(u, it, lane, index);
@@ -273,9 +282,9 @@ static void end_late(dt_udp *u, uint64_t now) {
     u->objects.next_deadline = next;
 }
 
-/* What is under way to one node stays within a window. If this machine is too slow for it, so that datagrams are
- * late, it is halved, since each octet under way may have to be sent again at one time. (What the network takes isn't
- * known here.) */
+/* What is under way to one node stays within a window, beside that of the governor, which follows the network. If
+ * this machine is too slow for it, so that datagrams are late, it is halved, since each octet under way may have to be
+ * sent again at one time. */
 static void adapt(dt_udp *u, uint64_t now) {
     struct objects *o = &u->objects;
     if (now < o->adapted_at + u->options.params->rto) return;
@@ -291,6 +300,7 @@ bool dtu_objects_send(dt_udp *u) {
     if (u->objects.sending == 0 || u->failed) return false;
     uint64_t now = dtu_clock_ms();
     unsigned left = BURST_CHUNKS;
+    u->governing.object_waits = false;
     end_late(u, now);
     adapt(u, now);
     for (struct target *to = u->objects.targets; to; to = to->next) {

@@ -66,12 +66,6 @@ struct peer *dtu_peers_add(struct peers *peers, uint32_t node) {
     return it;
 }
 
-/* Does this with each peer. */
-void dtu_peers_each(struct peers *peers, void (*act)(struct peer *peer)) {
-    for (size_t i = 0; i < peers->size; i++)
-        for (struct peer *it = peers->buckets[i]; it; it = it->next) act(it);
-}
-
 /* Removes a peer and frees it. */
 void dtu_peers_remove(struct peers *peers, struct peer *peer) {
     struct peer **link = bucket_of(peers, peer->node);

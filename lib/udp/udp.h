@@ -150,6 +150,7 @@ struct governing {
     uint64_t counted;                            /* octets under way, of all peers */
     uint64_t octets, numbers;                    /* of what waits; of calls that waited */
     bool wants_room;                             /* something was refused for want of room */
+    bool object_waits;                           /* a chunk may not enter yet */
 };
 
 struct peer {
@@ -432,7 +433,6 @@ void dtu_peers_note_too_big(struct peers *peers, struct peer *peer, uint32_t len
 struct peer *dtu_peers_next_too_big(struct peers *peers);
 
 void dtu_peers_remove(struct peers *peers, struct peer *peer);
-void dtu_peers_each(struct peers *peers, void (*act)(struct peer *peer));
 
 /* --- strangers.c */
 dt_status dtu_strangers_open(dt_udp *u);
@@ -502,7 +502,6 @@ void dtu_govern_drop(dt_udp *u, struct peer *peer);
 void dtu_govern_begin(struct governor *governor, uint64_t now_us);
 void dtu_govern_heard(dt_udp *u, struct watch *watch, const struct trailer *trailer, uint64_t now_us);
 void dtu_govern_count(dt_udp *u, struct peer *peer);
-void dtu_govern_forget(struct peer *peer);
 bool dtu_govern_admits(dt_udp *u, struct peer *peer, uint64_t octets);
 bool dtu_govern_waits(dt_udp *u, struct peer *peer, uint64_t octets);
 struct dt_call_result dtu_govern_keep_call(dt_udp *u, struct peer *peer, const struct dt_flow *flow,

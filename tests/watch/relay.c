@@ -2,7 +2,8 @@
  * back some datagrams.
  *
  *   relay KEY=VALUE..   a, b: ports of its own; to_a, to_b: ports of the two ends; delay: us; rate: Mbit/s, 0 for none;
- *                       queue: octets; seed; lose, copy, keep: datagrams of 10,000 that are lost, of which a second copy
+ *                       queue: octets; seed; lose, lose_back, copy, keep: datagrams of 10,000 that are lost, that are lost
+ *                       on the way to `to_a`, of which a second copy
  *                       arrives later, that arrive later only; from, to: how much later, in ms; deaf: for so many ms
  *                       of each 2 s nothing arrives at `to_a`
  *
@@ -45,7 +46,7 @@ struct relay {
     struct way ways[2];
     struct late late[MOST_LATE];
     size_t late_count;
-    uint64_t delay, queue, from, to, lose, copy, keep, deaf, longest;
+    uint64_t delay, queue, from, to, lose, lose_back, copy, keep, deaf, longest;
     double octets_each_ns;
     uint64_t went, lost, crowded, copied, kept;
 };
@@ -137,7 +138,7 @@ static void take(struct relay *r, struct way *way) {
         r->kept += kept;
         if (kept) continue;
         bool is_deaf = way == &r->ways[1] && now / 1000000 % 2000 < r->deaf;
-        if (is_deaf || happens(r->lose)) r->lost++;
+        if (is_deaf || happens(r->lose) || (way == &r->ways[1] && happens(r->lose_back))) r->lost++;
         else queue_up(r, way, rooms[i], len, now);
     }
 }
@@ -180,6 +181,7 @@ int main(int count, char **words) {
     r.octets_each_ns = number(words, "rate", 0) / 8000;
     r.queue = (uint64_t)number(words, "queue", 40e6);
     r.lose = (uint64_t)number(words, "lose", 0);
+    r.lose_back = (uint64_t)number(words, "lose_back", 0);
     r.copy = (uint64_t)number(words, "copy", 0);
     r.keep = (uint64_t)number(words, "keep", 0);
     r.deaf = (uint64_t)number(words, "deaf", 0);

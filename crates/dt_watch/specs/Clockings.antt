@@ -12,9 +12,9 @@ use Rattle.dt_watch.specs.Intervals.{is_possible, lower_seen, upper_seen, widene
 use Rattle.dt_watch.specs.Lower.{kept_lower, lower_at, turned}
 use Rattle.dt_watch.specs.Upper.{upper_at}
 
--- SPANS: 16 s, and at first as much as is over since the first datagram, 0.25 s at least
+-- SPANS: 16 s, and at first as much as was over since the first datagram when they began, 0.25 s at least
 abbrev pub span_of : ℕ → ℕ → ℕ
-span_of since came = min (max (came - since) 250000) 16000000
+span_of since began = min (max (began - since) 250000) 16000000
 
 abbrev pub is_over : ℕ → ℕ → ℕ → Bool
 is_over since came span = nat_lt (since + span) came
@@ -32,10 +32,10 @@ abbrev pub is_silent : Clocks → Reading → Bool
 is_silent c came = is_over c.spans.last.micros came.micros 30000000
 
 abbrev pub heard_over : Clocks → Reading → Bool
-heard_over c came = is_over c.spans.heard.micros came.micros (span_of c.spans.since.micros came.micros / 2)
+heard_over c came = is_over c.spans.heard.micros came.micros (span_of c.spans.since.micros c.spans.heard.micros / 2)
 
 abbrev pub interval_over : Clocks → Reading → Bool
-interval_over c came = is_over c.spans.interval.micros came.micros (span_of c.spans.since.micros came.micros)
+interval_over c came = is_over c.spans.interval.micros came.micros (span_of c.spans.since.micros c.spans.interval.micros)
 
 abbrev pub lower_turned : Bool → Lower → Lower
 lower_turned true l = record l { present = None; former = turned l.present l.former }

@@ -32,13 +32,13 @@ pub struct Clocks {
     pub spans: Spans,
 }
 
-/// A span of the interval has 16 s, and while less is over since `since` as much as that, 0.25 s at least: what
-/// the first datagrams were delayed by is soon forgotten.
-fn span_of(since: Reading, came: Reading) -> u64
-    ensures value { result ≡ span_of since.micros came.micros }
+/// A span of the interval that began then has 16 s, and at first as much as was over since `since`, 0.25 s at
+/// least: what the first datagrams were delayed by is soon forgotten.
+fn span_of(since: Reading, began: Reading) -> u64
+    ensures value { result ≡ span_of since.micros began.micros }
     ensures most { result < 2 ^ 25 }
 {
-    let age = came.micros.saturating_sub(since.micros);
+    let age = began.micros.saturating_sub(since.micros);
     age.clamp(250_000, 16_000_000)
 }
 
@@ -124,12 +124,13 @@ impl Clocks {
     fn turn(&mut self, came: Reading)
         ensures { Turns self.old self.new came }
     {
-        let span = span_of(self.spans.since, came);
-        if is_over(self.spans.heard, came, span / 2) {
+        let half = span_of(self.spans.since, self.spans.heard) / 2;
+        if is_over(self.spans.heard, came, half) {
             self.heard.turn();
             self.spans.heard = came;
         }
-        if is_over(self.spans.interval, came, span) {
+        let whole = span_of(self.spans.since, self.spans.interval);
+        if is_over(self.spans.interval, came, whole) {
             self.interval.turn();
             self.spans.interval = came;
         }

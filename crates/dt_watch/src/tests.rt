@@ -1,6 +1,6 @@
 //! Worked numbers.
 use crate::{
-    Arrival, Bound, ClockBounds, Interval, Judgement, Lower, Openings, Passage, Reading, Window,
+    Arrival, Bound, ClockBounds, Clocks, Interval, Judgement, Lower, Openings, Passage, Reading, Window,
     age, waited_ms,
 };
 
@@ -66,6 +66,28 @@ fn width_before_a_stop_counts(rt: HostRuntime) {
     assert!(rt; age_after(0) == Some(80_046));
     assert!(rt; age_after(38_000) == Some(42_026));
     assert!(rt; age_after(60_000).is_none());
+}
+
+/// The first exchange took 600 ms, and each later one 2 ms: what is counted for stops a second later is 2 ms
+/// and the drift, since spans are short at first.
+fn width_after_a_slow_start() -> u64 {
+    let mut clocks = Clocks::new(BOUNDS, at(1_000_000));
+    let mut flight = 300_000;
+    for step in 0..20_u32 {
+        let came = 1_000_000 + 100_000 * step;
+        clocks.hear(&Passage {
+            made: at(came - flight),
+            sure: at(came - 2 * flight),
+            came: at(came),
+        });
+        flight = 1000;
+    }
+    clocks.interval.uncertain()
+}
+
+#[test]
+fn slow_start_is_forgotten(rt: HostRuntime) {
+    assert!(rt; width_after_a_slow_start() < 2200);
 }
 
 fn arrival(opening: u64, sure: u32, came: u32) -> Arrival {
