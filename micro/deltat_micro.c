@@ -20,7 +20,17 @@ typedef struct dtm_flow flow;
 
 /* --- the layout */
 
-/* The contracts of this part and of dtm_action_of are tried by Frama-C (tests/micro_contracts.py). */
+/* The contracts of this part and of dtm_action_of are tried by Frama-C (tests/micro_contracts.py). They pin which fault is
+   reported: that of the first test that fails, and none where all hold. */
+/*@ logic integer two_of{L}(uint8_t *at) = at[0] * 256 + at[1];
+    logic integer four_of{L}(uint8_t *at) = ((at[0] * 256 + at[1]) * 256 + at[2]) * 256 + at[3];
+    predicate is_length{L}(uint8_t *octets, integer len) =
+        two_of(octets + 2) == len - 16 && len - 16 <= (octets[0] == 1 ? BODY_1 : BODY_2);
+    predicate is_kind(integer version, integer kind) = version == 1 ? 1 <= kind <= 3 : (kind == 1 || kind == 4);
+    predicate are_flags(integer kind, integer flags) = flags <= (kind == 1 ? 7 : 0);
+    predicate is_window(integer kind, integer window) = window <= (kind == 2 ? MOST_WINDOW : 0);
+    predicate is_size(integer version, integer kind, integer size) =
+        kind != 1 ? size == 0 : version == 1 ? 1 <= size <= DATA_1 : DATA_1 < size <= DATA_2; */
 /*@ requires \valid_read(at + (0 .. 1));
     assigns \nothing;
     ensures \result == at[0] * 256 + at[1]; */
@@ -43,15 +53,13 @@ static uint8_t failed(struct dtm_packet *it, uint8_t fault, uint32_t value) {
 /*@ requires len < 0x7fffffff && \valid_read(octets + (0 .. len - 1));
     requires \valid(it) && \separated(it, octets + (0 .. len - 1));
     assigns *it;
-    ensures len < 16 <==> \result == DTM_FAULT_SHORT;
-    ensures \result == 0 ==> 16 <= len <= 16 + BODY_2 && it->life > 0;
+    ensures \result == DTM_FAULT_SHORT <==> len < 16;
+    ensures len >= 16 ==> (\result == DTM_FAULT_VERSION <==> octets[0] != 1 && octets[0] != 2);
+    ensures len >= 16 && 1 <= octets[0] <= 2 ==> (\result == DTM_FAULT_LENGTH <==> !is_length(octets, len));
+    ensures len >= 16 && 1 <= octets[0] <= 2 && is_length(octets, len) ==>
+        \result == (four_of(octets + 4) == 0 ? DTM_FAULT_LIFETIME : 0);
     ensures \result == 0 ==> it->version == octets[0] && it->protocol == octets[1];
-    ensures \result == 0 ==> (it->version == 1 && len - 16 <= BODY_1) || it->version == 2;
-    ensures \result == 0 ==> octets[2] * 256 + octets[3] == len - 16;
-    ensures len >= 16 ==> (\result == DTM_FAULT_VERSION <==> (octets[0] != 1 && octets[0] != 2));
-    ensures len >= 16 && (octets[0] == 1 || octets[0] == 2) ==> (\result == DTM_FAULT_LENGTH <==>
-        (octets[2] * 256 + octets[3] != len - 16 || len - 16 > (octets[0] == 1 ? BODY_1 : BODY_2)));
-    ensures \result <= DTM_FAULT_LIFETIME; */
+    ensures \result == 0 ==> it->life == ((octets[4] * 256 + octets[5]) * 256 + octets[6]) * 256 + octets[7] > 0; */
 uint8_t dtm_read_deltagram(const uint8_t *octets, size_t len, struct dtm_packet *it) {
     uint32_t most;
     it->present = 0;
@@ -72,10 +80,25 @@ uint8_t dtm_read_deltagram(const uint8_t *octets, size_t len, struct dtm_packet 
     requires it->version == 1 || it->version == 2;
     requires \valid(it) && \separated(it, frame + (0 .. len - 1));
     assigns *it;
-    ensures \result == 0 ==> len >= 30 && it->size == len - 30 && it->octets == frame + 30;
-    ensures \result == 0 ==> it->kind == frame[16] && it->flags == frame[17] && 1 <= it->kind <= 4;
-    ensures \result == 0 && it->kind == DTM_PACKET_DATA ==> 1 <= it->size <= DATA_2 && it->flags <= 7 && it->window == 0;
-    ensures \result == 0 && it->kind != DTM_PACKET_DATA ==> it->size == 0 && it->flags == 0 && it->window <= MOST_WINDOW; */
+    ensures \result == DTM_FAULT_PROTOCOL <==> \old(it->protocol) != 1;
+    ensures \old(it->protocol) == 1 ==> (\result == DTM_FAULT_SHORT <==> len < 30);
+    ensures \old(it->protocol) == 1 && len >= 30 ==>
+        (\result == DTM_FAULT_KIND <==> !is_kind(\old(it->version), frame[16]));
+    ensures \old(it->protocol) == 1 && len >= 30 && is_kind(\old(it->version), frame[16]) ==>
+        (\result == DTM_FAULT_FLAGS <==> !are_flags(frame[16], frame[17]));
+    ensures \old(it->protocol) == 1 && len >= 30 && is_kind(\old(it->version), frame[16]) &&
+        are_flags(frame[16], frame[17]) ==>
+        (\result == DTM_FAULT_WINDOW <==>
+            !is_window(frame[16], ((frame[26] * 256 + frame[27]) * 256 + frame[28]) * 256 + frame[29]));
+    ensures \old(it->protocol) == 1 && len >= 30 && is_kind(\old(it->version), frame[16]) &&
+        are_flags(frame[16], frame[17]) &&
+        is_window(frame[16], ((frame[26] * 256 + frame[27]) * 256 + frame[28]) * 256 + frame[29]) ==>
+        (\result == DTM_FAULT_SIZE <==> !is_size(\old(it->version), frame[16], len - 30));
+    ensures \result <= DTM_FAULT_SIZE && \result != DTM_FAULT_VERSION && \result != DTM_FAULT_LENGTH;
+    ensures \result != DTM_FAULT_LIFETIME;
+    ensures \result == 0 ==> it->kind == frame[16] && it->flags == frame[17];
+    ensures \result == 0 ==> it->size == len - 30 && it->octets == frame + 30;
+    ensures \result == 0 ==> it->window <= MOST_WINDOW; */
 uint8_t dtm_read_packet(const uint8_t *frame, size_t len, struct dtm_packet *it) {
     const uint8_t *body = frame + HEADER;
     uint32_t size = (uint32_t)(len - HEADER), least = 0, most = 0;

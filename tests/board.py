@@ -8,12 +8,16 @@
   is missing, and nothing in between where nothing is uncertain; `deltat audit` says yes to both logs.
 - again: the board starts once more, with the flash as it was when it was cut off: it counts a start, and is silent for
   3 mpl + r + a. It never sends before.
+- full: the same with a page of flash that has no room for another start: it isn't erased.
 - library: the same as `first`, with the library over lib/serial at the other end of the line, a pseudo terminal
   (tests/serial/peer.c): both logs are audited. Left out, with a line, where there is no library or no gcc.
 
+A run in which the bridge or the emulator was held up shows nothing: the charge doesn't cover what waited there. It is done
+again, three times at most, and then it fails: run the test on a machine with less work.
+
 Ends with 77 where there is no program, no qemu-system-arm or no arm-none-eabi-gcc.
 
-In tests/all: PROGRAM, 180 s."""
+In tests/all: PROGRAM, 400 s."""
 from __future__ import annotations
 
 import argparse
@@ -42,6 +46,7 @@ from bridge import Bridge, Line, Udp, connected  # noqa: E402
 
 SECONDS, QUIET, MESSAGES = 16, 6050, 60
 LONGEST_MESSAGE = 200
+TRIES = 3
 # octets: code, and memory without the stack; gcc 12 makes 8,908 and 4,380. The stack's is what the firmware measured
 CEILINGS = {"code": 9300, "memory": 4500, "stack": 1200}
 COMPILE = ["arm-none-eabi-gcc", "-mcpu=cortex-m3", "-mthumb", "-Os", "-std=c11", "-DDTM_SENDS=2", f"-DSECONDS={SECONDS}", "-ffreestanding", "-nostdlib",
@@ -100,7 +105,7 @@ def script(local: int, peer: int, chance: random.Random) -> tuple[str, list[byte
 @dataclass
 class Run:
     """What both ends wrote, the octets that node 2 took to send, the board's last lines, and its flash when it was cut off.
-    `is_whole`: node 2 reads whole messages."""
+    `is_whole`: node 2 reads whole messages. `held_up`: how often a datagram may have waited for longer than the charge."""
 
     board: list[str]
     node: list[str]
@@ -108,6 +113,7 @@ class Run:
     notes: str
     flash: bytes
     is_whole: bool
+    held_up: int
 
 
 @dataclass
@@ -157,8 +163,12 @@ def library(given: argparse.Namespace, log: pathlib.Path) -> Iterator[Peer]:
         os.close(theirs)
 
 
-def dump(monitor: pathlib.Path, path: pathlib.Path) -> bytes:
-    """The flash as it is, by QEMU's monitor."""
+def dump(folder: pathlib.Path) -> bytes:
+    """The flash as it is, by QEMU's monitor, once the board has written a line of its log: by then it has counted its start."""
+    monitor, path, log = folder / "monitor", folder / "flash.now", folder / "board.log"
+    until = time.monotonic() + 10
+    while time.monotonic() < until and not (log.exists() and log.stat().st_size):
+        time.sleep(0.05)
     with socket.socket(socket.AF_UNIX) as it:
         it.connect(str(monitor))
         it.sendall(f'pmemsave {FLASH[0]:#x} {FLASH[1]} "{path}"\n'.encode())
@@ -181,7 +191,7 @@ def start_board(firmware: str, folder: pathlib.Path, flash: bytes) -> subprocess
 
 
 @contextlib.contextmanager
-def carried(bridge: Bridge) -> Iterator[None]:
+def carried(bridge: Bridge) -> Iterator[Bridge]:
     """Datagrams go over the bridge meanwhile."""
     over = threading.Event()
 
@@ -195,7 +205,7 @@ def carried(bridge: Bridge) -> Iterator[None]:
     thread = threading.Thread(target=carry)
     thread.start()
     try:
-        yield
+        yield bridge
     finally:
         over.set()
         thread.join()
@@ -203,13 +213,23 @@ def carried(bridge: Bridge) -> Iterator[None]:
 
 
 def run(firmware: str, folder: pathlib.Path, given: argparse.Namespace, flash: bytes, other: Other) -> Run:
+    """A run in which nothing was held up, or the last one that was tried."""
+    for _ in range(TRIES):
+        found = run_once(firmware, folder, given, flash, other)
+        if found.held_up == 0:
+            break
+        print(f"the machine is too busy: {found.held_up} times a datagram may have waited for longer than the charge")
+    return found
+
+
+def run_once(firmware: str, folder: pathlib.Path, given: argparse.Namespace, flash: bytes, other: Other) -> Run:
     """The board from its start to its end, with the flash that it had before, and node 2 of that kind."""
     # node 2 is there before the board sends: nothing waits on the line for longer than the charge
     with other(given, folder / "node.log") as peer:
         board = start_board(firmware, folder, flash)
         try:
-            with connected(str(folder / "uart")) as line, carried(Bridge(Line(line.fileno()), peer.end, given.loss, given.seed)):
-                now = dump(folder / "monitor", folder / "flash.now")
+            with connected(str(folder / "uart")) as line, carried(Bridge(Line(line.fileno()), peer.end, given.loss, given.seed)) as bridge:
+                now = dump(folder)
                 if peer.process.wait(SECONDS + 30) or board.wait(60):
                     sys.exit(f"node 2 ended with {peer.process.returncode}, the board with {board.returncode}")
         finally:
@@ -220,7 +240,7 @@ def run(firmware: str, folder: pathlib.Path, given: argparse.Namespace, flash: b
     print("".join(f"{it}\n" for it in logs[1] if it.startswith("#")), end="")
     lines = [[it for it in log if not it.startswith("#")] for log in logs]
     (folder / "node.log").write_text("".join(f"{it}\n" for it in lines[1]))
-    return Run(lines[0], lines[1], peer.taken(lines[1]), notes, now, peer.is_library)
+    return Run(lines[0], lines[1], peer.taken(lines[1]), notes, now, peer.is_library, bridge.counts["held up"])
 
 
 def octets_read(lines: list[str], flow: str) -> bytes:
@@ -248,8 +268,8 @@ def is_sound(what: str, found: bytes, taken: bytes, lines: list[str], flow: str,
 
 def at_node(run_: Run, what: str, taken: bytes, flow: str) -> bool:
     """Whether what node 2 read of a flow of the board is sound. Where it reads whole messages, it leaves out those of which
-    an octet is uncertain."""
-    left_out = LONGEST_MESSAGE * count(run_.board, "uncertain", flow) if run_.is_whole else 0
+    an octet is uncertain, and a last one that isn't whole yet."""
+    left_out = LONGEST_MESSAGE * (1 + count(run_.board, "uncertain", flow)) if run_.is_whole else 0
     return is_sound(what, octets_read(run_.node, flow), taken[: count(run_.board, "took", flow)], run_.board, flow, left_out)
 
 
@@ -268,7 +288,7 @@ def first(run_: Run, folder: pathlib.Path, program: str) -> bool:
     print(run_.notes, f"(stack at most {CEILINGS['stack']})")
     good = [at_node(run_, "up", up, UP), is_sound("down", mine, run_.taken, run_.node, DOWN), at_node(run_, "back", mine, BACK),
             audited(run_, folder, program), count(run_.board, "took", UP) > 1000, len(mine) > 200, stack <= CEILINGS["stack"]]
-    return all(good) and " again 0" in run_.notes
+    return all(good) and " again 0" in run_.notes and run_.held_up == 0
 
 
 def again(run_: Run, folder: pathlib.Path, program: str) -> bool:
@@ -287,6 +307,9 @@ def tried(firmware: str, folder: pathlib.Path, given: argparse.Namespace) -> lis
     two = run(firmware, folder, given, one.flash, program)
     if not again(two, folder, given.program) or one.flash != b"\xfe" + erased[1:]:
         failed.append("again")
+    full = run(firmware, folder, given, bytes(FLASH[1]), program)
+    if not again(full, folder, given.program) or any(full.flash):
+        failed.append("full")
     if not given.library.exists() or not shutil.which("gcc"):
         print(f"library: there is no {'gcc' if given.library.exists() else f'{given.library}: make -C lib'}")
         return failed
@@ -311,7 +334,7 @@ def main() -> int:
         folder = given.keep or pathlib.Path(name)
         folder.mkdir(parents=True, exist_ok=True)
         failed = tried(built(folder), folder, given)
-    print(f"{', '.join(failed)} failed" if failed else "first, again and library hold")
+    print(f"{', '.join(failed)} failed" if failed else "first, again, full and library hold")
     return 1 if failed else 0
 
 

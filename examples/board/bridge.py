@@ -8,6 +8,8 @@ that is held up for 100. Datagrams are stuffed and have their CRC-32, as in line
 from __future__ import annotations
 
 import argparse
+import array
+import fcntl
 import heapq
 import itertools
 import os
@@ -15,10 +17,11 @@ import random
 import select
 import socket
 import sys
+import termios
 import time
 import zlib
 
-MOST_LATE, MOST_HELD = 0.08, 0.1
+MOST_LATE, MOST_HELD, MOST_WAIT = 0.08, 0.1, 0.02
 LONGEST_RUN = 254
 
 
@@ -57,6 +60,12 @@ class Line:
 
     def fileno(self) -> int:
         return self.file
+
+    def unread(self) -> int:
+        """Octets that were written and that the other side hasn't read yet."""
+        count = array.array("i", [0])
+        fcntl.ioctl(self.file, termios.TIOCOUTQ, count)
+        return count[0]
 
     def take(self) -> list[bytes] | None:
         """The datagrams that have become whole; None where the other side is gone."""
@@ -103,10 +112,12 @@ class Bridge:
     """Between the board's line and another end. `counts` says what it did."""
 
     def __init__(self, board: Line, other: Line | Udp, loss: float, seed: int) -> None:
-        self.ends, self.loss, self.chance = (board, other), loss, random.Random(seed)
+        self.board, self.ends = board, (board, other)
+        self.loss, self.chance = loss, random.Random(seed)
         self.late: list[tuple[float, int, int, bytes]] = []
         self.number = itertools.count()
-        self.counts = {"up": 0, "down": 0, "lost": 0, "twice": 0, "spoilt": 0, "too late": 0}
+        self.read_at = self.turned_at = time.monotonic()
+        self.counts = {"up": 0, "down": 0, "lost": 0, "twice": 0, "spoilt": 0, "too late": 0, "held up": 0}
 
     def under_way(self, to: int, datagram: bytes) -> None:
         """A datagram begins its way to the end 0 (the board) or 1."""
@@ -124,11 +135,23 @@ class Bridge:
         self.counts["spoilt"] += is_spoilt
         self.ends[to].put(datagram, self.chance if is_spoilt else None)
 
+    def watch(self) -> None:
+        """Counts when the bridge or the board was held up, so that a datagram may have been under way for longer than the
+        charge covers, and nobody sees it."""
+        now = time.monotonic()
+        if self.board.unread() == 0:
+            self.read_at = now
+        if max(now - self.turned_at, now - self.read_at) > MOST_WAIT + MOST_HELD:
+            self.counts["held up"] += 1
+            self.read_at = now
+        self.turned_at = now
+
     def turn(self) -> bool:
         """Waits for what arrives, hands over what is due; whether both ends are still there. What it would hand over too
         late, since it was held up itself, is lost: the charge doesn't cover more."""
-        wait = max(self.late[0][0] - time.monotonic(), 0) if self.late else 0.1
-        ready, _, _ = select.select(self.ends, [], [], min(wait, 0.1))
+        self.watch()
+        wait = max(self.late[0][0] - time.monotonic(), 0) if self.late else MOST_WAIT
+        ready, _, _ = select.select(self.ends, [], [], min(wait, MOST_WAIT))
         for at, end in enumerate(self.ends):
             found = end.take() if end in ready else []
             if found is None:
