@@ -306,9 +306,9 @@ dt_service *dt_udp_service(dt_udp *udp);
 /* Until when the node may have inputs: a state folder has to know before each. The driver reads and writes it in its
  * calls. */
 struct dt_udp_keeper {
-    uint64_t from;  /* an input before this reading needn't be kept: the node is silent */
+    uint64_t since; /* an input before this reading needn't be kept: the node is silent */
     uint64_t until; /* an input up to this reading needs no `extend` */
-    uint64_t noted; /* the greatest reading of an input from `from` on: the driver writes it */
+    uint64_t noted; /* the greatest reading of an input from `since` on: the driver writes it */
     bool (*extend)(void *user, uint64_t at); /* makes `until` at least `at`. False: the input isn't done, and the
                                                 driver fails with DT_NOT_OPEN */
     void *user;

@@ -6,7 +6,8 @@
     release/interface.py rust       prints the Rust declarations
 
 The header is the source. Made from it: the Rust declarations (RUST), the ctypes tables (PYTHON), the places of fields
-that tests/library/layout.c has a compiler check, the names in lib/names.c, and the enums of include/deltat.hpp.
+that tests/library/layout.c has a compiler check, the names in lib/names.c, and the enums of include/deltat.hpp; and from
+include/deltat_udp.h the ctypes tables of the driver (PYTHON_UDP).
 release/manpage.py takes the calls of libdeltat(3) from here, and tests/library.py the loops. Compared with it:
 DELTAT_VERSION with VERSION, and the exports and structs of crates/dt_c, name by name and type by type. Ends with 1 if
 something differs, and with 2 if the words are wrong or the header isn't understood.
@@ -22,8 +23,10 @@ from typing import NamedTuple
 
 TOP = Path(__file__).resolve().parent.parent
 HEADER = TOP / "include" / "deltat.h"
+UDP_HEADER = TOP / "include" / "deltat_udp.h"
 RUST = TOP / "bindings" / "rust" / "deltat-sys" / "src" / "sys.rs"
 PYTHON = TOP / "bindings" / "python" / "deltat" / "_c.py"
+PYTHON_UDP = TOP / "bindings" / "python" / "deltat" / "_c_udp.py"
 LAYOUT = TOP / "tests" / "library" / "layout.c"
 NAMES = TOP / "lib" / "names.c"
 CPLUS = TOP / "include" / "deltat.hpp"
@@ -38,11 +41,14 @@ class Unreadable(Exception):
 
 
 class Type(NamedTuple):
-    """A type of a field, an argument or a result: its name without `struct` and `const`."""
+    """A type of a field, an argument or a result: its name without `struct` and `const`. `count`: how many an array
+    has. `arguments`: of a pointer to a function, whose result has the name."""
 
     name: str
     is_pointer: bool = False
     is_const: bool = False
+    count: int = 0
+    arguments: tuple["Type", ...] | None = None
 
 
 class Field(NamedTuple):
@@ -182,11 +188,17 @@ def fields_of(body: str) -> Iterator[Field]:
     for found in re.finditer(r"([^;/]+);[ \t]*(?:/\*(.*?)\*/)?|/\*.*?\*/", body, re.DOTALL):
         if found[1] is None:
             continue
-        declared = re.fullmatch(rf"\s*((?:const )?(?:struct )?{NAME})(\s*\*?)\s*({NAME}(?:, {NAME})*)\s*", found[1])
+        says, text = plain(found[2] or ""), " ".join(found[1].split())
+        if function := re.fullmatch(rf"({NAME}) \(\*({NAME})\)\((.*)\)", text):
+            arguments = [re.fullmatch(rf"(.*?){NAME}", it) for it in function[3].split(", ")]
+            yield Field(Type(function[1], arguments=tuple(type_of(it[1]) for it in arguments if it)), function[2], says)
+            continue
+        declared = re.fullmatch(rf"((?:const )?(?:struct )?{NAME}) ?(\*?{NAME}(?:\[\d+\])?(?:, \*?{NAME})*)", text)
         if not declared:
-            raise Unreadable(f"no field is known of: {found[1].strip()}")
-        for name in declared[3].split(", "):
-            yield Field(type_of(declared[1] + declared[2].strip()), name, plain(found[2] or ""))
+            raise Unreadable(f"no field is known of: {text}")
+        for name in declared[2].split(", "):
+            stars, bare_name, count = re.fullmatch(rf"(\*?)({NAME})(?:\[(\d+)\])?", name).groups()
+            yield Field(type_of(declared[1] + stars)._replace(count=int(count or 0)), bare_name, says)
 
 
 def members_of(body: str) -> Iterator[Member]:
@@ -220,6 +232,7 @@ PARTS = re.compile(
     rf"|\#define (?P<constant>{NAME}) (?P<value>\S+)[ \t]*(?:/\*(?P<beside>.*?)\*/)?"
     r"|(?P<other>\#(?:[^\n]*\\\n)*[^\n]*)|(?P<language>extern \"C\" \{|\})"
     rf"|typedef struct (?P<opaque>{NAME}) \w+;|(?P<alias>typedef [^;]*;)"
+    rf"|enum \{{ (?P<single>{NAME}) = (?P<number>\d+) \}};"
     rf"|enum (?P<enum>{NAME}) \{{(?P<members>.*?)\n?\}};"
     rf"|struct (?P<struct>{NAME}) \{{(?P<fields>.*?)\n\}};"
     r"|(?P<function>(?:const )?(?:struct )?\w+[ *]+dt_\w+\([^;{]*\);)",
@@ -246,6 +259,8 @@ def read(text: str) -> Header:
             continue
         if found["constant"]:
             constants.append(constant_of(found["constant"], found["value"], plain(found["beside"] or "")))
+        elif found["single"]:
+            constants.append(constant_of(found["single"], found["number"], plain(comment)))
         elif found["opaque"]:
             opaque.append(found["opaque"])
         elif found["enum"]:
@@ -266,6 +281,12 @@ def read(text: str) -> Header:
 def header() -> Header:
     text = HEADER.read_text()
     # the first comment and the guard of the header say nothing of its parts
+    return read(text[text.index('#ifdef __cplusplus\nextern "C" {'):])
+
+
+@cache
+def udp_header() -> Header:
+    text = UDP_HEADER.read_text()
     return read(text[text.index('#ifdef __cplusplus\nextern "C" {'):])
 
 
@@ -444,43 +465,68 @@ def rust() -> str:
 
 PYTHON_TYPES = {
     "bool": "c_bool", "uint8_t": "c_uint8", "uint16_t": "c_uint16", "uint32_t": "c_uint32", "uint64_t": "c_uint64",
-    "size_t": "c_size_t", "double": "c_double", "dt_status": "c_uint8",
+    "size_t": "c_size_t", "double": "c_double", "dt_status": "c_uint8", "int": "c_int", "int32_t": "c_int32", "char": "c_char",
 }
 # enums whose name in Python isn't that of C without its prefix
 PYTHON_ENUMS = {"dt_status_code": "Status", "dt_invalid": "InvalidReason"}
 
 
-def python_type(it: Type) -> str:
+def python_name(name: str) -> str:
+    """The name of a struct or an enum: those of the driver are in a module of their own, which has the others as `_c`."""
+    return camel(name.removeprefix("dt_udp_")) if name.startswith("dt_udp_") else camel(name)
+
+
+def python_type(it: Type, of: str = "") -> str:
+    """`of`: what stands before the name of a struct that another module has."""
     if it.is_pointer and it.name == "char" and it.is_const:
         return "ctypes.c_char_p"
     # octets and handles: what is handed over has any type
-    if it.is_pointer and (it.name in ("uint8_t", "char", "void") or it.name in header().opaque):
+    if it.is_pointer and (it.name in ("uint8_t", "char", "void", "dt_udp") or it.name in header().opaque):
         return "ctypes.c_void_p"
-    name = f"ctypes.{PYTHON_TYPES[it.name]}" if it.name in PYTHON_TYPES else camel(it.name)
+    if it.name in PYTHON_TYPES:
+        name = f"ctypes.{PYTHON_TYPES[it.name]}"
+    else:
+        name = python_name(it.name) if it.name.startswith("dt_udp_") else of + camel(it.name)
+    if it.count:
+        return f"{name} * {it.count}"
     return f"ctypes.POINTER({name})" if it.is_pointer else name
 
 
-def python_struct(it: Struct) -> Iterator[str]:
-    yield from [f"class {camel(it.name)}(ctypes.Structure):"]
+def python_result(it: Type, of: str = "") -> str:
+    return "None" if it == Type("void") else python_type(it, of)
+
+
+def python_struct(it: Struct, of: str = "") -> Iterator[str]:
+    name, types = python_name(it.name), {}
+    for field in it.fields:
+        types[field.name] = python_type(field.type, of)
+        if field.type.arguments is not None:
+            types[field.name] = f"{name}{camel(field.name)}"
+            arguments = [python_type(one, of) for one in field.type.arguments]
+            result = python_result(field.type._replace(arguments=None), of)
+            yield f"{types[field.name]} = ctypes.CFUNCTYPE({', '.join([result, *arguments])})"
+    if any(field.type.arguments is not None for field in it.fields):
+        yield from ["", ""]
+    yield from [f"class {name}(ctypes.Structure):"]
     says = f"{it.says[:1].upper()}{it.says[1:].rstrip('.')}" if 0 < len(it.says) < 100 else f"`struct {it.name}`"
     yield from [f'    """{says}."""', ""]
     yield "    _fields_ = ["
-    yield from (f'        ("{field.name}", {python_type(field.type)}),' for field in it.fields)
+    yield from (f'        ("{name}", {of_type}),' for name, of_type in types.items())
     yield from ["    ]", "", ""]
 
 
 def python_enum(it: Enum) -> Iterator[str]:
-    yield f"class {PYTHON_ENUMS.get(it.name, camel(it.name))}(enum.IntEnum):"
+    yield f"class {PYTHON_ENUMS.get(it.name, python_name(it.name))}(enum.IntEnum):"
     yield f'    """`enum {it.name}`."""'
     yield ""
     yield from (f"    {member.name.removeprefix(it.prefix)} = {member.value}" for member in it.members)
     yield from ["", ""]
 
 
-def python_function(it: Function) -> Iterator[str]:
+def python_function(it: Function, of: str = "") -> Iterator[str]:
     """A row of the table of functions: a line where it fits."""
-    result = "None" if it.result == Type("void") else python_type(it.result)
-    arguments = [python_type(one.type) for one in it.parameters]
+    result = python_result(it.result, of)
+    arguments = [python_type(one.type, of) for one in it.parameters]
     line = f'    "{it.name}": ({result}, [{", ".join(arguments)}]),'
     if len(line) <= 120:
         yield line
@@ -548,6 +594,24 @@ def python() -> str:
     return "\n".join([*lines, "}"]) + "\n" + PYTHON_END
 
 
+def python_udp() -> str:
+    """The same of the driver."""
+    it, made_by = udp_header(), MADE_BY.replace("deltat.h", "deltat_udp.h")
+    lines = ['"""The interface of libdeltat-udp for ctypes.', "", f'{made_by.capitalize()}."""']
+    lines += ["from __future__ import annotations", "", "import ctypes", "import enum", "from typing import Any", ""]
+    lines += ["from . import _c", ""]
+    lines += [f"{one.name.removeprefix('DT_UDP_')} = {one.value:_}" for one in it.constants]
+    lines += ["", ""]
+    for enum in it.enums:
+        lines += python_enum(enum)
+    for struct in it.structs:
+        lines += python_struct(struct, "_c.")
+    lines += ["# Each function: its result, and its arguments.", "FUNCTIONS: dict[str, tuple[Any, list[Any]]] = {"]
+    for function in it.functions:
+        lines += python_function(function, "_c.")
+    return "\n".join([*lines, "}"]) + "\n"
+
+
 # --- C
 
 
@@ -601,7 +665,7 @@ def cplus() -> str:
     return before + first + "\n".join(lines) + behind[behind.index(last):]
 
 
-MADE: dict[Path, Callable[[], str]] = {RUST: rust, PYTHON: python, LAYOUT: layout_c, NAMES: names_c, CPLUS: cplus}
+MADE: dict[Path, Callable[[], str]] = {RUST: rust, PYTHON: python, PYTHON_UDP: python_udp, LAYOUT: layout_c, NAMES: names_c, CPLUS: cplus}
 
 
 # --- the exports

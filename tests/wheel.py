@@ -32,8 +32,8 @@ MOST_LINES = 25
 FORMER = "#include <stdint.h>\nuint32_t dt_abi(void) { return 1; }\n"
 # which files the import has, as the kernel sees them
 LOADED = """import deltat
-from deltat import _c_udp
-_c_udp.libraries()
+from deltat._library import drivers
+drivers()
 maps = {line.split()[-1] for line in open("/proc/self/maps") if "libdeltat" in line}
 print(deltat.__file__, *sorted(maps), deltat.version())
 """

@@ -30,7 +30,7 @@ void dtu_driven_close(dt_udp *u) { free(u->driven.there); }
 /* Notes an input for the program's state folder, before it is done. False: it must not be done. */
 bool dtu_driven_note(dt_udp *u, uint64_t at) {
     struct dt_udp_keeper *it = u->driven.keeper;
-    if (it == NULL || at < it->from) return true;
+    if (it == NULL || at < it->since) return true;
     errno = 0; /* (a folder that can't be written is the program's to explain) */
     if (at > it->until && !it->extend(it->user, at)) return false;
     if (at > it->noted) it->noted = at;

@@ -1,27 +1,44 @@
-"""The interface of libdeltat-udp for ctypes: the structs and functions of include/deltat_udp.h.
+"""The interface of libdeltat-udp for ctypes.
 
-The library is looked for at DELTAT_UDP_LIBRARY, if that is set; then as `libdeltat-udp.so.1` beside the libdeltat that
-DELTAT_LIBRARY names, beside this file, in lib/ of the clone that has it, and in the system's places. It is loaded with
-the first socket: nodes without one don't need it."""
-
+Made by release/interface.py from include/deltat_udp.h; to change it, change that."""
 from __future__ import annotations
 
 import ctypes
 import enum
-import functools
-import os
-from pathlib import Path
-from typing import NamedTuple
+from typing import Any
 
 from . import _c
 
 ABI_VERSION = 1
-NAME = f"libdeltat-udp.so.{ABI_VERSION}"
 MAX_HEARD = 64
-ROLES = {False: 1, True: 2}
 
 
-class Kind(enum.IntEnum):
+class Role(enum.IntEnum):
+    """`enum dt_udp_role`."""
+
+    NODE = 1
+    SERVICE = 2
+
+
+class Start(enum.IntEnum):
+    """`enum dt_udp_start`."""
+
+    BY_STATE = 0
+    FIRST = 1
+    AGAIN = 2
+
+
+class Flag(enum.IntEnum):
+    """`enum dt_udp_flag`."""
+
+    WITHOUT_SEGMENTS = 1
+    WITHOUT_BATCHES = 2
+    WITHOUT_STAMPS = 4
+    ALL_PORTS = 8
+    PARAMS_CHANGED = 16
+
+
+class EventKind(enum.IntEnum):
     """`enum dt_udp_event_kind`."""
 
     NONE = 0
@@ -37,224 +54,247 @@ class Kind(enum.IntEnum):
     REPLY_UNCERTAIN = 10
 
 
-_BOOL, _U8, _U16, _U32, _U64 = ctypes.c_bool, ctypes.c_uint8, ctypes.c_uint16, ctypes.c_uint32, ctypes.c_uint64
-_POINTER, _SIZE = ctypes.c_void_p, ctypes.c_size_t
-
-
 class Options(ctypes.Structure):
-    """`struct dt_udp_options`."""
+    """Zero the struct, and set `size` and what you need. A zero means the value in brackets."""
 
     _fields_ = [
-        ("size", _U32),
-        ("node", _U32),
+        ("size", ctypes.c_uint32),
+        ("node", ctypes.c_uint32),
         ("host", ctypes.c_char_p),
         ("port", ctypes.c_char_p),
         ("params", ctypes.POINTER(_c.Params)),
-        ("charge", _U32),
-        ("pace", _U32),
-        ("link", _U16),
-        ("role", _U8),
-        ("start_as", _U8),
-        ("life", _U32),
+        ("charge", ctypes.c_uint32),
+        ("pace", ctypes.c_uint32),
+        ("link", ctypes.c_uint16),
+        ("role", ctypes.c_uint8),
+        ("start_as", ctypes.c_uint8),
+        ("life", ctypes.c_uint32),
         ("state", ctypes.c_char_p),
-        ("max_calls", _U32),
-        ("max_requests", _U32),
-        ("max_requests_per_flow", _U32),
-        ("max_message", _U32),
-        ("max_queued", _U32),
-        ("max_flows", _U32),
-        ("max_peers", _U32),
-        ("report_kinds", _U32),
-        ("flags", _U32),
+        ("max_calls", ctypes.c_uint32),
+        ("max_requests", ctypes.c_uint32),
+        ("max_requests_per_flow", ctypes.c_uint32),
+        ("max_message", ctypes.c_uint32),
+        ("max_queued", ctypes.c_uint32),
+        ("max_flows", ctypes.c_uint32),
+        ("max_peers", ctypes.c_uint32),
+        ("report_kinds", ctypes.c_uint32),
+        ("flags", ctypes.c_uint32),
     ]
 
 
 class Error(ctypes.Structure):
-    """`struct dt_udp_error`."""
+    """Why dt_udp_open or dt_udp_set_peer failed."""
 
-    _fields_ = [("text", ctypes.c_char * 240), ("system_error", ctypes.c_int), ("status", _U8), ("field", _U8)]
+    _fields_ = [
+        ("text", ctypes.c_char * 240),
+        ("system_error", ctypes.c_int),
+        ("status", ctypes.c_uint8),
+        ("field", ctypes.c_uint8),
+    ]
 
 
 class Event(ctypes.Structure):
-    """`struct dt_udp_event`."""
+    """Belongs to the driver, and stays as it is until the next call of dt_udp_next_event or dt_udp_close."""
 
     _fields_ = [
-        ("octets", _POINTER),
-        ("len", _SIZE),
-        ("call", _U64),
-        ("object", _U64),
+        ("octets", ctypes.c_void_p),
+        ("len", ctypes.c_size_t),
+        ("call", ctypes.c_uint64),
+        ("object", ctypes.c_uint64),
         ("token", _c.Token),
         ("flow", _c.Flow),
-        ("peer", _U32),
+        ("peer", ctypes.c_uint32),
         ("system_error", ctypes.c_int32),
-        ("kind", _U8),
-        ("cause", _U8),
-        ("gap", _BOOL),
+        ("kind", ctypes.c_uint8),
+        ("cause", ctypes.c_uint8),
+        ("gap", ctypes.c_bool),
         ("report", ctypes.POINTER(_c.Report)),
     ]
 
 
 class Counts(ctypes.Structure):
-    """`struct dt_udp_counts`."""
+    """Counters begin at 0 when the driver is opened."""
 
     _fields_ = [
-        (name, _U64)
-        for name in (
-            "reads",
-            "writes",
-            "datagrams_in",
-            "datagrams_out",
-            "unknown",
-            "not_sent",
-            "too_big",
-            "challenges_out",
-            "challenges_withheld",
-            "peers_learnt",
-            "peers_moved",
-            "peers_forgotten",
-            "clock_steps",
-            "messages_lost",
-            "messages_too_long",
-        )
+        ("reads", ctypes.c_uint64),
+        ("writes", ctypes.c_uint64),
+        ("datagrams_in", ctypes.c_uint64),
+        ("datagrams_out", ctypes.c_uint64),
+        ("unknown", ctypes.c_uint64),
+        ("not_sent", ctypes.c_uint64),
+        ("too_big", ctypes.c_uint64),
+        ("challenges_out", ctypes.c_uint64),
+        ("challenges_withheld", ctypes.c_uint64),
+        ("peers_learnt", ctypes.c_uint64),
+        ("peers_moved", ctypes.c_uint64),
+        ("peers_forgotten", ctypes.c_uint64),
+        ("clock_steps", ctypes.c_uint64),
+        ("messages_lost", ctypes.c_uint64),
+        ("messages_too_long", ctypes.c_uint64),
     ]
 
 
-EXTEND = ctypes.CFUNCTYPE(_BOOL, _POINTER, _U64)
+class PutResult(ctypes.Structure):
+    """`struct dt_udp_put_result`."""
+
+    _fields_ = [
+        ("object", ctypes.c_uint64),
+        ("status", ctypes.c_uint8),
+    ]
+
+
+KeeperExtend = ctypes.CFUNCTYPE(ctypes.c_bool, ctypes.c_void_p, ctypes.c_uint64)
 
 
 class Keeper(ctypes.Structure):
     """`struct dt_udp_keeper`."""
 
-    _fields_ = [("from_", _U64), ("until", _U64), ("noted", _U64), ("extend", EXTEND), ("user", _POINTER)]
+    _fields_ = [
+        ("since", ctypes.c_uint64),
+        ("until", ctypes.c_uint64),
+        ("noted", ctypes.c_uint64),
+        ("extend", KeeperExtend),
+        ("user", ctypes.c_void_p),
+    ]
 
 
 class Datagram(ctypes.Structure):
-    """`struct dt_udp_datagram`."""
+    """A datagram that arrived."""
 
-    _fields_ = [("octets", _POINTER), ("len", _SIZE), ("now", _U64), ("waited_ms", _U32), ("link", _U16)]
+    _fields_ = [
+        ("octets", ctypes.c_void_p),
+        ("len", ctypes.c_size_t),
+        ("now", ctypes.c_uint64),
+        ("waited_ms", ctypes.c_uint32),
+        ("link", ctypes.c_uint16),
+    ]
 
 
-RECEIVE = ctypes.CFUNCTYPE(_U8, _POINTER, ctypes.POINTER(Datagram))
-TICK = ctypes.CFUNCTYPE(_U8, _POINTER, _U64)
-WAKE = ctypes.CFUNCTYPE(_U64, _POINTER)
-NEXT_DATAGRAM = ctypes.CFUNCTYPE(_U8, _POINTER, _POINTER, ctypes.POINTER(_c.Datagram))
-NOT_SENT = ctypes.CFUNCTYPE(None, _POINTER)
+HooksReceive = ctypes.CFUNCTYPE(ctypes.c_uint8, ctypes.c_void_p, ctypes.POINTER(Datagram))
+HooksTick = ctypes.CFUNCTYPE(ctypes.c_uint8, ctypes.c_void_p, ctypes.c_uint64)
+HooksWake = ctypes.CFUNCTYPE(ctypes.c_uint64, ctypes.c_void_p)
+HooksNextDatagram = ctypes.CFUNCTYPE(ctypes.c_uint8, ctypes.c_void_p, ctypes.c_void_p, ctypes.POINTER(_c.Datagram))
+HooksNotSent = ctypes.CFUNCTYPE(None, ctypes.c_void_p)
 
 
 class Hooks(ctypes.Structure):
     """`struct dt_udp_hooks`."""
 
     _fields_ = [
-        ("receive", RECEIVE),
-        ("tick", TICK),
-        ("wake", WAKE),
-        ("next_datagram", NEXT_DATAGRAM),
-        ("not_sent", NOT_SENT),
-        ("user", _POINTER),
+        ("receive", HooksReceive),
+        ("tick", HooksTick),
+        ("wake", HooksWake),
+        ("next_datagram", HooksNextDatagram),
+        ("not_sent", HooksNotSent),
+        ("user", ctypes.c_void_p),
     ]
 
 
 class Driven(ctypes.Structure):
-    """`struct dt_udp_driven`."""
+    """Zero the struct, and set `size` and what there is. All of it is the program's, until dt_udp_close."""
 
     _fields_ = [
-        ("size", _U32),
-        ("node", _POINTER),
-        ("service", _POINTER),
+        ("size", ctypes.c_uint32),
+        ("node", ctypes.c_void_p),
+        ("service", ctypes.c_void_p),
         ("keeper", ctypes.POINTER(Keeper)),
         ("hooks", ctypes.POINTER(Hooks)),
     ]
 
 
-class Batch(ctypes.Structure):
-    """`struct dt_udp_batch`."""
+class Item(ctypes.Structure):
+    """One event of a batch. It has no pointer, so that a binding reads many at once."""
 
     _fields_ = [
-        ("items", _POINTER),
-        ("octets", _POINTER),
-        ("max_items", _U32),
-        ("size", _U32),
-        ("count", _U32),
-        ("used", _U32),
-        ("heard", _POINTER),
-        ("heard_count", _U32),
-        ("blocked", _BOOL),
+        ("call", ctypes.c_uint64),
+        ("at", ctypes.c_uint32),
+        ("len", ctypes.c_uint32),
+        ("flow", _c.Flow),
+        ("kind", ctypes.c_uint8),
+        ("cause", ctypes.c_uint8),
     ]
 
 
-ITEM = "=QIIIIHHBB2x"
-"""`struct dt_udp_item`, for the module `struct`: call, place of the octets, their number, the flow's source, target,
-source port and target port, kind and cause."""
+class Batch(ctypes.Structure):
+    """Zero the struct, and set the first four."""
+
+    _fields_ = [
+        ("items", ctypes.POINTER(Item)),
+        ("octets", ctypes.c_void_p),
+        ("max_items", ctypes.c_uint32),
+        ("size", ctypes.c_uint32),
+        ("count", ctypes.c_uint32),
+        ("used", ctypes.c_uint32),
+        ("heard", ctypes.POINTER(ctypes.c_uint32)),
+        ("heard_count", ctypes.c_uint32),
+        ("blocked", ctypes.c_bool),
+    ]
 
 
-def _exports() -> dict[str, tuple[object, list[object]]]:
-    text, error, flow = ctypes.c_char_p, ctypes.POINTER(Error), ctypes.POINTER(_c.Flow)
-    options, driven, route = ctypes.POINTER(Options), ctypes.POINTER(Driven), ctypes.POINTER(_c.Route)
-    # (a token may be given by the address of its octets)
-    p, size, token = _POINTER, _SIZE, _POINTER
-    return {
-        "dt_udp_abi_version": (_U32, []),
-        "dt_udp_open": (p, [options, error]),
-        "dt_udp_close": (None, [p]),
-        "dt_udp_set_peer": (_U8, [p, _U32, text, text, error]),
-        "dt_udp_open_port": (_U8, [p, _U16, _U8]),
-        "dt_udp_next_event": (ctypes.POINTER(Event), [p, ctypes.c_int]),
-        "dt_udp_send": (_c.SendResult, [p, flow, text, size]),
-        "dt_udp_call": (_c.CallResult, [p, flow, text, size, _U32]),
-        "dt_udp_reply": (_c.ReplyResult, [p, token, text, size]),
-        "dt_udp_forget": (_U8, [p, token]),
-        "dt_udp_flush": (None, [p]),
-        "dt_udp_drain": (_U8, [p, ctypes.c_int]),
-        "dt_udp_fd": (ctypes.c_int, [p]),
-        "dt_udp_local_port": (_U16, [p]),
-        "dt_udp_silent_ms": (_U64, [p]),
-        "dt_udp_life": (_U32, [p]),
-        "dt_udp_get_counts": (ctypes.POINTER(Counts), [p]),
-        "dt_udp_drive": (p, [driven, options, error]),
-        "dt_udp_set_neighbour": (_U8, [p, route, text, text, error]),
-        "dt_udp_next_batch": (_U8, [p, ctypes.c_int, ctypes.POINTER(Batch)]),
-        "dt_udp_flush_since": (_BOOL, [p, _U64]),
-        "dt_udp_socket": (ctypes.c_int, [p]),
-        "dt_udp_system_error": (ctypes.c_int, [p]),
-    }
-
-
-def _path() -> str:
-    here = Path(__file__).resolve().parent
-    places = [here, here.parents[2] / "lib"]
-    if named := os.environ.get("DELTAT_LIBRARY"):
-        places.insert(0, Path(named).resolve().parent)
-    found = [str(it / NAME) for it in places if (it / NAME).exists()]
-    return os.environ.get("DELTAT_UDP_LIBRARY") or (found or [NAME])[0]
-
-
-def _load(kind: type[ctypes.CDLL], path: str) -> ctypes.CDLL:
-    try:
-        library = kind(path, use_errno=True)
-    except OSError as why:
-        raise ImportError(
-            f"deltat: {path} can't be loaded ({why}); install libdeltat-udp, build it with `make -C lib`, or set "
-            "DELTAT_UDP_LIBRARY to its path"
-        ) from why
-    library.dt_udp_abi_version.restype = _U32
-    version = library.dt_udp_abi_version()
-    if version != ABI_VERSION:
-        raise ImportError(f"{path} has interface {version}, and this package needs {ABI_VERSION}")
-    for name, (result, arguments) in _exports().items():
-        function = getattr(library, name)
-        function.restype, function.argtypes = result, arguments
-    return library
-
-
-class Libraries(NamedTuple):
-    """The library twice: calls by `waits` let other threads run, those by `short` don't."""
-
-    waits: ctypes.CDLL
-    short: ctypes.CDLL
-
-
-@functools.cache
-def libraries() -> Libraries:
-    """Loads the library, once. Raises ImportError."""
-    path = _path()
-    return Libraries(_load(ctypes.CDLL, path), _load(ctypes.PyDLL, path))
+# Each function: its result, and its arguments.
+FUNCTIONS: dict[str, tuple[Any, list[Any]]] = {
+    "dt_udp_abi_version": (ctypes.c_uint32, []),
+    "dt_udp_fresh_number": (ctypes.c_uint32, []),
+    "dt_udp_open": (ctypes.c_void_p, [ctypes.POINTER(Options), ctypes.POINTER(Error)]),
+    "dt_udp_close": (None, [ctypes.c_void_p]),
+    "dt_udp_set_peer": (
+        ctypes.c_uint8,
+        [
+            ctypes.c_void_p,
+            ctypes.c_uint32,
+            ctypes.c_char_p,
+            ctypes.c_char_p,
+            ctypes.POINTER(Error),
+        ],
+    ),
+    "dt_udp_open_port": (ctypes.c_uint8, [ctypes.c_void_p, ctypes.c_uint16, ctypes.c_uint8]),
+    "dt_udp_next_event": (ctypes.POINTER(Event), [ctypes.c_void_p, ctypes.c_int]),
+    "dt_udp_send": (_c.SendResult, [ctypes.c_void_p, ctypes.POINTER(_c.Flow), ctypes.c_void_p, ctypes.c_size_t]),
+    "dt_udp_call": (
+        _c.CallResult,
+        [
+            ctypes.c_void_p,
+            ctypes.POINTER(_c.Flow),
+            ctypes.c_void_p,
+            ctypes.c_size_t,
+            ctypes.c_uint32,
+        ],
+    ),
+    "dt_udp_reply": (_c.ReplyResult, [ctypes.c_void_p, ctypes.POINTER(_c.Token), ctypes.c_void_p, ctypes.c_size_t]),
+    "dt_udp_forget": (ctypes.c_uint8, [ctypes.c_void_p, ctypes.POINTER(_c.Token)]),
+    "dt_udp_open_objects": (ctypes.c_uint8, [ctypes.c_void_p, ctypes.c_uint16, ctypes.c_uint16, ctypes.c_uint64]),
+    "dt_udp_put_object": (
+        PutResult,
+        [
+            ctypes.c_void_p,
+            ctypes.c_uint32,
+            ctypes.c_void_p,
+            ctypes.c_uint64,
+            ctypes.c_uint32,
+        ],
+    ),
+    "dt_udp_flush": (None, [ctypes.c_void_p]),
+    "dt_udp_drain": (ctypes.c_uint8, [ctypes.c_void_p, ctypes.c_int]),
+    "dt_udp_fd": (ctypes.c_int, [ctypes.c_void_p]),
+    "dt_udp_local_port": (ctypes.c_uint16, [ctypes.c_void_p]),
+    "dt_udp_silent_ms": (ctypes.c_uint64, [ctypes.c_void_p]),
+    "dt_udp_life": (ctypes.c_uint32, [ctypes.c_void_p]),
+    "dt_udp_get_counts": (ctypes.POINTER(Counts), [ctypes.c_void_p]),
+    "dt_udp_node": (ctypes.c_void_p, [ctypes.c_void_p]),
+    "dt_udp_service": (ctypes.c_void_p, [ctypes.c_void_p]),
+    "dt_udp_drive": (ctypes.c_void_p, [ctypes.POINTER(Driven), ctypes.POINTER(Options), ctypes.POINTER(Error)]),
+    "dt_udp_set_neighbour": (
+        ctypes.c_uint8,
+        [
+            ctypes.c_void_p,
+            ctypes.POINTER(_c.Route),
+            ctypes.c_char_p,
+            ctypes.c_char_p,
+            ctypes.POINTER(Error),
+        ],
+    ),
+    "dt_udp_next_batch": (ctypes.c_uint8, [ctypes.c_void_p, ctypes.c_int, ctypes.POINTER(Batch)]),
+    "dt_udp_flush_since": (ctypes.c_bool, [ctypes.c_void_p, ctypes.c_uint64]),
+    "dt_udp_socket": (ctypes.c_int, [ctypes.c_void_p]),
+    "dt_udp_system_error": (ctypes.c_int, [ctypes.c_void_p]),
+}

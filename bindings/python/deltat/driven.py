@@ -16,6 +16,7 @@ from typing import TYPE_CHECKING, NoReturn
 
 from . import _c, _c_udp
 from ._c import Status
+from ._library import drivers
 from .errors import InvalidArgument, OutOfMemory, StateError, Stopped, UdpError
 from .hooked import Hooked, is_hooked
 from .values import Flow, flow_to_c, params_of
@@ -26,8 +27,9 @@ if TYPE_CHECKING:
 MAX_ITEMS, ROOM = 1024, 262_144
 """How many events are taken at once, and of how many octets."""
 LONGEST_WAIT_MS = 1000
-_ITEM = struct.Struct(_c_udp.ITEM)
-_TOKEN = struct.Struct("=QIIHH")
+# the structs `dt_udp_item` and `dt_token`: the flow's two nodes are before its two ports
+_ITEM, _TOKEN = struct.Struct("=QIIIIHHBB2x"), struct.Struct("=QIIHH4x")
+assert _ITEM.size == ctypes.sizeof(_c_udp.Item) and _TOKEN.size == ctypes.sizeof(_c.Token)
 
 
 def refuse(error: _c_udp.Error) -> NoReturn:
@@ -59,7 +61,7 @@ class Driven:
 
     def __init__(self, node: AnyNode, bind: tuple[str, int]) -> None:
         """Binds the socket. Raises UdpError if the system refuses it, InvalidArgument or OutOfMemory."""
-        self._waits, self._short = _c_udp.libraries()
+        self._waits, self._short = drivers()
         self._node, self._failures, self._ended = node, list[BaseException](), (0, 0)
         host, port = _numeric(bind)
         options, given, error = _c.sized(_c_udp.Options), _c.sized(_c_udp.Driven), _c_udp.Error()
@@ -73,23 +75,12 @@ class Driven:
             refuse(error)
         self._handle: int | None = handle
         self.socket = socket.socket(fileno=self._short.dt_udp_socket(handle))
-        self._room, self._items = ctypes.create_string_buffer(ROOM), (ctypes.c_char * (MAX_ITEMS * _ITEM.size))()
-        self._heard = (ctypes.c_uint32 * _c_udp.MAX_HEARD)()
-        self._octets_view, self._items_view = memoryview(self._room), memoryview(self._items)
-        self._batch = _c_udp.Batch(
-            items=ctypes.addressof(self._items),
-            octets=ctypes.addressof(self._room),
-            max_items=0,
-            size=ROOM,
-            heard=ctypes.addressof(self._heard),
-        )
-        self._token = (ctypes.c_char * _TOKEN.size)()
-        self._token_at = ctypes.addressof(self._token)
-        self._call, self._reply, self._next = (
-            self._short.dt_udp_call,
-            self._short.dt_udp_reply,
-            self._short.dt_udp_next_batch,
-        )
+        room, items = ctypes.create_string_buffer(ROOM), (_c_udp.Item * MAX_ITEMS)()
+        self._heard, self._token = (ctypes.c_uint32 * _c_udp.MAX_HEARD)(), _c.Token()
+        self._octets_view, self._items_view = memoryview(room), memoryview(items).cast("B")
+        self._batch = _c_udp.Batch(items=items, octets=ctypes.addressof(room), size=ROOM, heard=self._heard)
+        self._call, self._reply = self._short.dt_udp_call, self._short.dt_udp_reply
+        self._next, self._waits_next = self._short.dt_udp_next_batch, self._waits.dt_udp_next_batch
         self._counts = self._short.dt_udp_get_counts(self._handle).contents
         self._finalizer = weakref.finalize(self, _close, self._waits, handle, self.socket, self._kept)
         self._finalizer.atexit = False
@@ -118,7 +109,7 @@ class Driven:
                 return False
             return True
 
-        keeper.extend = _c_udp.EXTEND(extend)
+        keeper.extend = _c_udp.KeeperExtend(extend)
         given.keeper = ctypes.pointer(keeper)
         return keeper
 
@@ -162,12 +153,13 @@ class Driven:
     def turn(self, wait_ms: int = 0) -> int:
         """Waits at most so many ms for something, receives what arrived, does what is due, and puts what leaves on the
         wire. Returns a status, for `check`; `events` has the events that were taken."""
-        next_batch = self._next if wait_ms == 0 else self._waits.dt_udp_next_batch
+        next_batch = self._waits_next if wait_ms else self._next
         status: int = next_batch(self._handle or self._open(), wait_ms, self._batch)
         return status
 
     def events(self) -> tuple[Iterator[tuple[int, ...]], bytes]:
-        """The events of the last turn, as `_c_udp.ITEM` has them, and their octets."""
+        """The events of the last turn, and their octets. Of each event: the call, the place of its octets and their
+        number, the flow's source, target and their ports, the kind and the cause."""
         batch = self._batch
         return _ITEM.iter_unpack(self._items_view[: batch.count * _ITEM.size]), bytes(self._octets_view[: batch.used])
 
@@ -225,12 +217,12 @@ class Driven:
 
     def reply(self, flow: Flow, call: int, octets: bytes) -> _c.ReplyResult:
         self._put_token(flow, call)
-        replied: _c.ReplyResult = self._reply(self._handle or self._open(), self._token_at, octets, len(octets))
+        replied: _c.ReplyResult = self._reply(self._handle or self._open(), self._token, octets, len(octets))
         return replied
 
     def forget(self, flow: Flow, call: int) -> int:
         self._put_token(flow, call)
-        status: int = self._short.dt_udp_forget(self._handle or self._open(), self._token_at)
+        status: int = self._short.dt_udp_forget(self._handle or self._open(), self._token)
         return status
 
     @property
@@ -249,4 +241,4 @@ def _close(library: ctypes.CDLL, handle: int, its_socket: socket.socket, kept: l
     for it in kept:
         if isinstance(it, _c_udp.Keeper):
             # (its function has the state, which has it)
-            it.extend = _c_udp.EXTEND()
+            it.extend = _c_udp.KeeperExtend(0)

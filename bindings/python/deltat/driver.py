@@ -36,7 +36,10 @@ from collections.abc import AsyncIterator, Awaitable, Callable, Iterator
 
 from . import _c, _c_udp
 from ._c import Cause, PortKind, Start, Status
-from ._c_udp import Error as _Error, Event as _Event, Kind as _Kind
+from ._c_udp import Error as _Error
+from ._c_udp import Event as _Event
+from ._c_udp import EventKind as _Kind
+from ._library import drivers
 from .driven import refuse
 from .errors import Declined, DeltatError, Full, InvalidArgument, OutOfMemory, Quiet, Stopped, UdpError, Unsure
 from .service import Request, Token, _gone, _invalid, _ms, _token
@@ -44,7 +47,7 @@ from .values import Flow, Message, Params, flow_from_c, flow_to_c, in_range, oct
 
 __all__ = ["AsyncCalls", "Calls", "Udp", "UdpError"]
 
-_waits, _library = _c_udp.libraries()
+_waits, _library = drivers()
 
 
 
@@ -92,7 +95,7 @@ class Udp:
         options.host, options.port = host and host.encode(), None if port is None else str(port).encode()
         options.params = ctypes.pointer(params_of(params))
         options.pace, options.life = in_range(pace, 32, "pace"), in_range(life, 32, "life")
-        options.role, options.start_as = _c_udp.ROLES[service], start or 0
+        options.role, options.start_as = _c_udp.Role.SERVICE if service else _c_udp.Role.NODE, start or 0
         options.state = None if state is None else os.fsencode(state)
         options.max_peers, options.flags = in_range(max_peers, 32, "max_peers"), in_range(flags, 32, "flags")
         self.node, self.params, error = node, params, _Error()
@@ -230,7 +233,7 @@ def _made(udp: Udp, flow: Flow, payload: bytes, timeout: float) -> int:
 
 def _replied(udp: Udp, token: Token, payload: bytes) -> None:
     octets = octets_of(payload)
-    it = _library.dt_udp_reply(udp._open(), ctypes.byref(_token(token)), octets, len(octets))
+    it = _library.dt_udp_reply(udp._open(), _token(token), octets, len(octets))
     if it.status == Status.FULL:
         raise Full(it.free)
     if it.status == Status.INVALID:
@@ -241,7 +244,7 @@ def _replied(udp: Udp, token: Token, payload: bytes) -> None:
 
 
 def _forgotten(udp: Udp, token: Token) -> None:
-    _check(_library.dt_udp_forget(udp._open(), ctypes.byref(_token(token))))
+    _check(_library.dt_udp_forget(udp._open(), _token(token)))
 
 
 class Calls:

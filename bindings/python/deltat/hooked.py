@@ -28,11 +28,11 @@ class Hooked:
     def __init__(self, node: AnyNode, failures: list[BaseException]) -> None:
         self._node, self._failures = node, failures
         self.hooks = _c_udp.Hooks(
-            _c_udp.RECEIVE(self._receive),
-            _c_udp.TICK(self._tick),
-            _c_udp.WAKE(self._wake),
-            _c_udp.NEXT_DATAGRAM(self._next_datagram),
-            _c_udp.NOT_SENT(self._not_sent),
+            _c_udp.HooksReceive(self._receive),
+            _c_udp.HooksTick(self._tick),
+            _c_udp.HooksWake(self._wake),
+            _c_udp.HooksNextDatagram(self._next_datagram),
+            _c_udp.HooksNotSent(self._not_sent),
         )
 
     def _failed(self, why: BaseException) -> int:

@@ -44,10 +44,10 @@ from typing import TYPE_CHECKING, NamedTuple, NoReturn, Protocol, TypeGuard
 
 from . import _c, clock
 from ._c import Cause, EventKind, InvalidReason, PortKind, Start, Status
+from ._c_udp import EventKind as Kind
 from ._library import library
 from .errors import Declined, Forked, Full, Gone, InvalidArgument, OutOfMemory, Stopped, Unsure
 from .node import AnyNode, Exports
-from ._c_udp import Kind
 from .driven import Driven
 from .udp import AsyncUdp, Udp
 from .values import Flow, Link, Params, flow_from_c, flow_to_c, in_range, octets_of
@@ -293,7 +293,8 @@ def _ms(timeout: float) -> int:
     """Returns a timeout in seconds in ms, at least 1."""
     if not timeout < 4_294_967:
         raise InvalidArgument(f"timeout is {timeout} s; it must be below 4294967 s (timeout_ms of a Service is in ms)")
-    return max(1, round(timeout * 1000))
+    ms = round(timeout * 1000)
+    return ms if ms > 0 else 1
 
 
 class _Line:
@@ -319,24 +320,20 @@ class _Ends(Protocol):
 class _End:
     """The end of a call, for a plain program."""
 
+    __slots__ = ("answer", "is_over", "why")
+
     def __init__(self) -> None:
-        self.answer: bytes | None = None
+        self.answer, self.is_over = b"", False
         self.why: Unsure | None = None
 
     def done(self) -> bool:
-        return self.answer is not None or self.why is not None
+        return self.is_over
 
     def set_result(self, answer: bytes) -> None:
-        self.answer = answer
+        self.answer, self.is_over = answer, True
 
     def set_exception(self, why: Unsure) -> None:
-        self.why = why
-
-    def result(self) -> bytes:
-        if self.why:
-            raise self.why
-        assert self.answer is not None
-        return self.answer
+        self.why, self.is_over = why, True
 
 
 _made = tuple.__new__
@@ -461,20 +458,22 @@ class Calls:
     def call(self, flow: Flow, payload: bytes, timeout: float = 5.0) -> bytes:
         """Makes a call, and returns its answer, within `timeout` seconds. Raises Unsure; Declined, InvalidArgument or
         Stopped if it wasn't made; OutOfMemory if the node ran out of memory in it: take the call as unsure."""
-        end, udp = _End(), self.udp
+        end, udp, ends = _End(), self.udp, self._desk.ends
         udp._enter()
         with udp._lock:
             number = _call(udp, flow, payload, timeout)
-            self._desk.ends[number] = end
+            ends[number] = end
         try:
-            while not end.done():
+            while not end.is_over:
                 udp._turn(None)
         except (OutOfMemory, Stopped):
-            if not end.done():
+            if not end.is_over:
                 raise Unsure(Cause.STOPPED) from None
         finally:
-            self._desk.ends.pop(number, None)
-        return end.result()
+            ends.pop(number, None)
+        if end.why:
+            raise end.why
+        return end.answer
 
     def requests(self, seconds: float | None = None) -> Iterator[Request]:
         """Returns the requests that arrive, until none did for this many seconds (None: until the socket is closed).

@@ -373,7 +373,7 @@ class State:
             # so a start that is killed in its silence doesn't have the next one begin it anew
             self._promise(now)
         self._quiet_until = self._opened_at + self.params.quiet_ms if self.start is Start.AGAIN else 0
-        self._keeper.from_ = self._quiet_until
+        self._keeper.since = self._quiet_until
         return self._opened_at
 
     def silence(self, now: int | None = None) -> int:
@@ -437,7 +437,7 @@ class State:
     def _end(self, why: str) -> None:
         self._unusable = why
         self._until, self._quiet_until = -1, 0
-        self._keeper.until = self._keeper.from_ = 0
+        self._keeper.until = self._keeper.since = 0
         self._finalizer()
 
 

@@ -182,7 +182,9 @@ class Udp:
 
     def _turn(self, timeout: float | None = 0.0) -> None:
         """Waits for so long at most, or until something is due; receives what arrived, and does what is due."""
-        wait_ms = LONGEST_WAIT_MS if timeout is None else min(math.ceil(max(timeout, 0) * 1000), LONGEST_WAIT_MS)
+        wait_ms = LONGEST_WAIT_MS
+        if timeout is not None:
+            wait_ms = min(math.ceil(max(timeout, 0) * 1000), LONGEST_WAIT_MS)
         self._enter()
         if self._was_early:
             # (something may have come in since)
