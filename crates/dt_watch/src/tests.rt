@@ -1,7 +1,7 @@
 //! Worked numbers.
 use crate::{
-    Arrival, Bound, ClockBounds, Clocks, Interval, Judgement, Lower, Openings, Passage, Reading, Window,
-    age, waited_ms,
+    Arrival, Bound, ClockBounds, Clocks, Interval, Judgement, Lower, Openings, Passage, Reading,
+    Window, age, waited_ms,
 };
 
 const BOUNDS: ClockBounds = ClockBounds {
