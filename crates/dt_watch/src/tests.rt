@@ -72,15 +72,14 @@ fn width_before_a_stop_counts(rt: HostRuntime) {
 /// and the drift, since spans are short at first.
 fn width_after_a_slow_start() -> u64 {
     let mut clocks = Clocks::new(BOUNDS, at(1_000_000));
-    let mut flight = 300_000;
     for step in 0..20_u32 {
         let came = 1_000_000 + 100_000 * step;
+        let flight = if step == 0 { 300_000 } else { 1000 };
         clocks.hear(&Passage {
             made: at(came - flight),
             sure: at(came - 2 * flight),
             came: at(came),
         });
-        flight = 1000;
     }
     clocks.interval.uncertain()
 }
