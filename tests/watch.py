@@ -13,6 +13,7 @@ counted. Then the same runs without the watch, until one breaks, which it must w
   held     the client is stopped between the making of its frames and the socket
   again    the service is started again each 2 s, with old packets under way
   clock    the client's machine and its clock stand for 0.6 s: an alarm
+  form     the trailer's octets, by the worked one of docs/formats.md
   drops    no datagram is dropped as too old: --datagrams of them (100,000) on each of three links
 
 Ends with 77 where there is no compiler or no archive.
@@ -80,7 +81,8 @@ class Programs:
     def __init__(self, folder: pathlib.Path) -> None:
         self.folder = folder
         self.made = 0
-        for name, more in (("relay", ()), ("ends", (WRAPPED, *map(str, ARCHIVES)))):
+        codec = [str(TOP / "lib" / "udp" / f"{it}.c") for it in ("trailer", "octets")]
+        for name, more in (("relay", ()), ("form", codec), ("ends", (WRAPPED, *map(str, ARCHIVES)))):
             words = [COMPILER, *FLAGS, str(HERE / f"{name}.c"), *more, "-o", str(folder / name)]
             ran = subprocess.run(words, capture_output=True, text=True, check=False)
             if ran.returncode:
@@ -231,6 +233,22 @@ def runs_of(case: str, programs: Programs, runs: int) -> str:
     return "; ".join(told)
 
 
+def form(programs: Programs) -> str:
+    """The codec: the worked trailer of docs/formats.md, each octet of it at each value, and other versions and kinds."""
+    lines = (TOP / "docs" / "formats.md").read_text().splitlines()
+    worked = bytes.fromhex(next(it for it in lines if it.startswith("a1b2c3d4")))
+    changed = [worked[:at] + bytes([value]) + worked[at + 1 :] for at in range(len(worked)) for value in range(0, 256, 5)]
+    given = [worked, *changed, worked[:4] + bytes(6) + worked[10:]]
+    words = [str(programs.folder / "form"), *(it.hex() for it in given)]
+    said = subprocess.run(words, capture_output=True, text=True, check=True).stdout.splitlines()
+    wanted = "a1b2c3d4 7 1 0 2000000 1999000 9 20 5 0 3 "
+    assert said[0] == wanted + worked.hex(), f"the worked trailer is read as {said[0]}"
+    for octets, line in zip(given, said, strict=True):
+        good = octets[10] in (0x11, 0x12, 0x13) and octets[4:10] != bytes(6)
+        assert line.split()[-1] == (octets.hex() if good else "none"), f"{octets.hex()} is read as {line}"
+    return f"{len(given)} trailers"
+
+
 def drops(programs: Programs, datagrams: int) -> str:
     """No datagram is dropped that isn't late, by the parameters of dt_params_for."""
     told = []
@@ -258,6 +276,7 @@ def main() -> int:
     cases: dict[str, Callable[[Programs], str]] = {
         it: (lambda programs, it=it: runs_of(it, programs, words.runs)) for it in LINKS
     }
+    cases["form"] = form
     cases["drops"] = lambda programs: drops(programs, words.datagrams)
     if unknown := set(words.cases) - set(cases):
         parser.error(f"no case {', '.join(sorted(unknown))}")
