@@ -11,7 +11,7 @@
 With --shots or --picture only screenshots are written. One line a case, and then how many hold. Status 1 if one
 fails, 77 if there is no Chromium.
 
-In tests/all: PROGRAM, 600 s."""
+In tests/all: PROGRAM, 900 s."""
 import argparse
 import base64
 import http.client
@@ -256,7 +256,7 @@ CONTRAST = """(() => {
     }
     return "rgb(255, 255, 255)";
   };
-  const texts = "h1, h2, h3, p, b, label, legend, td, th, pre, code, kbd, button, .badge, .tally span, .ends span, .key";
+  const texts = "h1, h2, h3, p, b, label, legend, td, th, pre, code, kbd, button, .badge, .tally span, .ends span";
   let least = 99, where = "";
   for (const it of document.querySelectorAll(texts)) {
     if (!it.getClientRects().length || !it.textContent.trim() || it.closest(":disabled, .unseen")) continue;
@@ -366,53 +366,49 @@ def tabs(page: Page) -> list[Case]:
     ]
 
 
+def button_of(move: str) -> str:
+    """The button that makes a move."""
+    word, _, side = move.partition(" ")
+    return move if word == "wait" else side if word in ("kill", "start") else word
+
+
 def buttons(page: Page) -> list[Case]:
-    """Each button, by mouse: the moves of those that have a key are those of the key."""
+    """Each button of a move, by mouse."""
     page.open()
-    wrong, pressed = [], set()
+    wrong = []
     for before, _, move in KEYS:
-        word = (
-            move
-            if move.startswith("wait")
-            else move.split(" ")[1]
-            if move.split(" ")[0] in ("kill", "start")
-            else move.split(" ")[0]
-        )
         run_of(page, before)
-        page.click(f'#controls [data-do="{word}"]')
-        pressed.add(word)
+        page.click(f'#controls [data-do="{button_of(move)}"]')
         if page.value("moves") != [*before, move]:
-            wrong.append(f"{word} after {before} gave {page.value('moves')}")
-    run_of(page, [])
-    page.click('#welcome [data-do="order"]')
-    page.click("[name=way][value=client]")
-    is_client = page.value("way") == "client"
-    page.click(".chip")
-    is_back = page.value("way") == "dispenser"
-    page.click('[data-do="undo"]')
-    undone = page.value("moves") == []
-    run_of(page, ["order"])
-    page.click('[data-do="judge"]')
-    shown = page.value("!by('end').hidden")
-    page.click("#on")
-    hidden = page.value("by('end').hidden")
-    page.click('[data-do="new"]')
-    anew = page.value("moves") == []
-    page.click("#slow")
-    is_slow = page.value("slow && !by('long').hidden")
-    page.click("#long")
-    waited = page.value("moves") == ["wait 250000"]
-    page.key("q")
-    again = page.value("moves.length") == 2
-    page.click("#slow")
-    fast = page.value("!slow && by('long').hidden")
-    pressed |= {"undo", "judge", "new", "wait 250000"}
+            wrong.append(f"{button_of(move)} after {before} gave {page.value('moves')}")
+    pressed = {button_of(move) for _, _, move in KEYS} | {"undo", "judge", "new", "wait 250000"}  # the last in `others`
     missing = set(page.value("all('[data-do]').map((it) => it.dataset.do)")) - pressed
-    rest = [is_client, is_back, undone, shown, hidden, anew, is_slow, waited, again, fast]
-    return [
-        ("buttons", not wrong and not missing, "; ".join(wrong) or f"{len(pressed)} pressed, not {missing}"),
-        ("other controls", all(rest), str(rest)),
+    return [("buttons", not wrong and not missing, "; ".join(wrong) or f"{len(pressed)} pressed, not {missing}")]
+
+
+def others(page: Page) -> list[Case]:
+    """Each other control, by mouse: what is clicked, and what holds then."""
+    page.open()
+    steps = [
+        ('#welcome [data-do="order"]', "moves.length === 1"),
+        ("[name=way][value=client]", "way === 'client'"),
+        (".chip", "way === 'dispenser'"),
+        ('[data-do="undo"]', "moves.length === 0"),
+        ('#controls [data-do="order"]', "by('end').hidden"),
+        ('[data-do="judge"]', "!by('end').hidden"),
+        ("#on", "by('end').hidden"),
+        ('[data-do="new"]', "moves.length === 0 && !by('welcome').hidden"),
+        ("#slow", "slow && !by('long').hidden"),
+        ("#long", "moves.join() === 'wait 250000'"),
+        ("#slow", "!slow && moves.length === 0 && by('long').hidden"),
+        ('.head[data-lane="coap"]', "lane === 'coap'"),
     ]
+    wrong = []
+    for selector, holds in steps:
+        page.click(selector)
+        if not page.value(holds):
+            wrong.append(f"{selector}: not {holds}")
+    return [("other controls", not wrong, "; ".join(wrong) or f"{len(steps)} clicks")]
 
 
 def shows(page: Page) -> list[Case]:
@@ -447,44 +443,37 @@ def slow(page: Page) -> list[Case]:
     return [("slow", good, f"{told[0]['coap'][0]}; within 5 s {told[1]['coap'][1]} cup")]
 
 
+def kept_by(page: Page, folder: Path) -> Path:
+    """The file that the page keeps, by its button."""
+    page.call("Browser.setDownloadBehavior", behavior="allow", downloadPath=str(folder))
+    page.click("#save")
+    path, until = folder / "network.schedule", time.monotonic() + 20
+    while not (path.exists() and path.stat().st_size) and time.monotonic() < until:
+        time.sleep(0.05)
+    return path
+
+
 def ends(page: Page, program: str, folder: Path) -> list[Case]:
     """The verdict, the log and the schedule; the file that is kept, replayed, audited and played on."""
     page.open()
     page.value("become(() => SHOWS[1])")
     page.key("j")
     title = page.value("by('end-title').textContent")
-    page.call("Browser.setDownloadBehavior", behavior="allow", downloadPath=str(folder))
-    page.click("#save")
-    kept = folder / "network.schedule"
-    until = time.monotonic() + 10
-    while not kept.exists() and time.monotonic() < until:
-        time.sleep(0.05)
-    time.sleep(0.2)
+    kept = kept_by(page, folder)
     page.click("#copy")
-    log = subprocess.run([program, "replay"], input=kept.read_bytes(), capture_output=True, check=False)
-    audit = subprocess.run([program, "audit"], input=log.stdout, capture_output=True, check=False).stdout
-    same = log.stdout.decode() == page.value("by('log').textContent") and kept.read_text() == page.value(
-        "by('schedule').textContent"
-    )
+    schedule, log = page.value("[by('schedule').textContent, by('log').textContent]")
+    ran = subprocess.run([program, "replay"], input=kept.read_bytes(), capture_output=True, check=False)
+    audit = subprocess.run([program, "audit"], input=ran.stdout, capture_output=True, check=False).stdout
     good = (
-        title == "You beat HTTP, HTTP+keys and CoAP, and not Delta-t"
-        and same
-        and log.returncode == 0
-        and audit == b"audit yes\n"
+        ran.returncode == 0 and ran.stdout.decode() == log and kept.read_text() == schedule and audit == b"audit yes\n"
     )
-    cases = [("end", good, f"{title}; {audit.decode().strip()}")]
+    cases = [("end", good and title == "You beat HTTP, HTTP+keys and CoAP, and not Delta-t", title)]
     with Served(program, str(kept)) as address:
         page.address = address
         page.open("moves.length > 0")
         page.settle()
-        cases.append(
-            (
-                "played on",
-                page.value("JSON.stringify(moves) === JSON.stringify(SHOWS[1])")
-                and page.value("view.schedule") == kept.read_text(),
-                "",
-            )
-        )
+        same = page.value("JSON.stringify(moves) === JSON.stringify(SHOWS[1])")
+        cases.append(("played on", same and page.value("view.schedule") == schedule, ""))
     page.key("o")
     told = page.value("by('fault').textContent")
     return [*cases, ("server that ended", "Is tools/demo.py still running?" in told, told)]
@@ -586,51 +575,18 @@ def server(address: str) -> list[Case]:
 def terminal(program: str, folder: Path) -> list[Case]:
     """The game in a terminal: the same moves give the same schedule; bad lines get an error, and the game goes on."""
     kept = folder / "typed.schedule"
-    lines = [
-        "o",
-        "d>",
-        "k>",
-        "s>",
-        "l<",
-        "l<",
-        "w 4",
-        "fly",
-        "w",
-        "u",
-        "w x",
-        "d",
-        "d>",
-        "d>",
-        f"save {kept}",
-        "save /nowhere/x",
-        "?",
-        "",
-    ]
+    lines = [*"o|d>|k>|s>|l<|l<|w 4|fly|w|u|w x|d|d>|d>".split("|"), f"save {kept}", "save /nowhere/x", "?", ""]
     command = [sys.executable, str(TOOL), "--terminal", "--program", program]
     ran = subprocess.run(command, input="\n".join(lines), capture_output=True, text=True, timeout=60, check=False)
     moves = [it[7:] for it in kept.read_text().splitlines() if it.startswith("# move ")]
-    want = [
-        "order",
-        "deliver dispenser",
-        "kill dispenser",
-        "start dispenser",
-        "lose client",
-        "lose client",
-        "wait 4000",
-        "deliver dispenser",
-        "deliver dispenser",
-    ]
-    good = (
-        ran.returncode == 0
-        and moves == want
-        and "1: 2! waiting" in ran.stdout
-        and ran.stdout.rstrip().endswith("audit yes")
-        and ran.stdout.count("demo.py:") == 4
-    )
+    want = "order|deliver dispenser|kill dispenser|start dispenser|lose client|lose client|wait 4000".split("|")
+    errors = ran.stdout.count("demo.py:")
+    good = ran.returncode == 0 and moves == [*want, "deliver dispenser", "deliver dispenser"] and errors == 4
+    good = good and "1: 2! waiting" in ran.stdout and ran.stdout.rstrip().endswith("audit yes")
     again = subprocess.run([*command, str(kept)], input="q\n", capture_output=True, text=True, timeout=60, check=False)
     same = kept.read_text() in again.stdout
     return [
-        ("terminal", good, f"{moves}, {ran.stdout.count('demo.py:')} errors, {ran.stderr[-200:]}"),
+        ("terminal", good, f"{len(moves)} moves, {errors} errors, {ran.stderr[-200:]}"),
         ("terminal again", same, ""),
     ]
 
@@ -726,6 +682,7 @@ def main() -> int:
             *keys(page),
             *tabs(page),
             *buttons(page),
+            *others(page),
             *shows(page),
             *slow(page),
             *looks(page, address),

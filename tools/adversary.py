@@ -214,6 +214,11 @@ def arguments() -> argparse.Namespace:
     )
     it.add_argument("--keep", metavar="FILE", help="write the schedule of a game against deltat")
     it.add_argument("--program", default=default_program(), metavar="PATH", help="the program deltat (%(default)s)")
+    return checked(it)
+
+
+def checked(it: argparse.ArgumentParser) -> argparse.Namespace:
+    """The words of the command line, if they suit each other."""
     given = it.parse_args()
     if sum(map(bool, (given.player, given.random, given.search))) != 1:
         it.error("give one of PROGRAM, --random and --search")
