@@ -20,10 +20,12 @@ import json
 import os
 import pathlib
 import shutil
+import signal
 import subprocess
 import sys
 import tempfile
 import time
+from typing import Any
 
 HERE = pathlib.Path(__file__).resolve().parent
 TOP = HERE.parent
@@ -141,7 +143,12 @@ def serve(path: Path, folder: pathlib.Path) -> int:
     """Both servers, in this process's namespace, until it is stopped."""
     set_queue(path)
     running = [subprocess.Popen(it, stderr=subprocess.DEVNULL) for it in server_words(path, folder)]
-    return running[0].wait()
+    try:
+        return running[0].wait()
+    finally:
+        for it in running:
+            it.terminate()
+            it.wait()
 
 
 def measure(path: Path, folder: pathlib.Path, given: argparse.Namespace) -> None:
@@ -174,7 +181,7 @@ def measure(path: Path, folder: pathlib.Path, given: argparse.Namespace) -> None
     (folder / "results").write_text(json.dumps(found))
 
 
-def best(found: list[list], size: int, depth: int, way: str) -> Result:  # type: ignore[type-arg]
+def best(found: list[list[Any]], size: int, depth: int, way: str) -> Result:
     """The best run counts, since others may load the machine."""
     results = [Result(*it[4]) for it in found if it[:2] == [size, depth] and it[3] == way]
     return max(results, key=lambda it: it.writes + it.reads)
@@ -235,6 +242,7 @@ def main() -> int:
     reads.add_argument("--inside", nargs=2, help=argparse.SUPPRESS)
     reads.add_argument("--serve", nargs=2, help=argparse.SUPPRESS)
     given = reads.parse_args()
+    signal.signal(signal.SIGTERM, lambda *_: sys.exit(1))  # (so that what was started is ended)
     if given.serve:
         return serve(PATHS[given.serve[0]], pathlib.Path(given.serve[1]))
     if given.inside:

@@ -9,6 +9,8 @@
 #include <sys/signalfd.h>
 #include <time.h>
 
+enum { SOCKET_MS = 20 }; /* of the charge that dt_params_for computes */
+
 void die(const char *format, ...) {
     va_list words;
     va_start(words, format);
@@ -59,6 +61,7 @@ void network_compute(struct network *it) {
     network.mtu = (uint32_t)it->mtu;
     it->params = (struct dt_params){.size = sizeof it->params};
     if (dt_params_for(&network, &it->params, &it->charge) != DT_OK) die("no parameters suit such a network");
+    it->charge -= SOCKET_MS; /* (the driver measures the wait in the socket, and takes it off by itself) */
 }
 
 int signals_fd(void) {

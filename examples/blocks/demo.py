@@ -414,6 +414,7 @@ def main() -> int:
     reads.add_argument("--watch", type=float, default=20.0, metavar="S", help="from the last flush on (20)")
     reads.add_argument("--picture", type=pathlib.Path, metavar="FILE", help="where the picture is written, as SVG")
     given = reads.parse_args()
+    signal.signal(signal.SIGTERM, lambda *_: sys.exit(1))  # (so that what was started is ended)
     for word in ("nbdkit", "ip", "make", "cc"):
         if shutil.which(word) is None:
             raise SystemExit(f"demo: {word} isn't installed")

@@ -1,10 +1,10 @@
 /* How many octets of calls may be under way. */
 #include "window.h"
 
-enum { LEAST = 131072, QUEUE = 131072, WHILE_US = 10000000 };
+enum { LEAST = 32768, QUEUE = 131072, WHILE_US = 10000000 };
 
 struct window window_new(double most, double longest_us) {
-    struct window it = {.octets = 2 * LEAST, .most = most, .longest_us = longest_us, .excess_us = -1};
+    struct window it = {.octets = QUEUE, .most = most, .longest_us = longest_us, .excess_us = -1};
     for (int i = 0; i < CLASSES; i++) it.usual[i] = it.learnt[i] = 1e12;
     return it;
 }
