@@ -184,7 +184,8 @@ class Service(AnyNode):
 
     def call(self, flow: Flow, payload: bytes, timeout_ms: int, at: int | None = None) -> int:
         """Makes a call that ends within `timeout_ms`, 1 to 4,294,967,295, and returns its number, which its end has
-        too. Raises Declined, InvalidArgument or Stopped, and then nothing was sent. OutOfMemory: the node is stopped, and the call may have been made; if it was, `events` has its end."""
+        too. Raises Declined, InvalidArgument or Stopped, and then nothing was sent. OutOfMemory: the node is stopped,
+        and the call may have been made; if it was, `events` has its end."""
         octets = octets_of(payload)
         in_range(timeout_ms, 32, "timeout_ms")
         made = library.dt_service_call(
