@@ -300,8 +300,8 @@ dt_service *dt_udp_service(dt_udp *udp);
 /* --- nodes that the program opened itself
  *
  * A program that opened a node by dt_node_open or dt_service_open, with all of its links, may have it driven: the
- * driver has the socket, the clock and the timer, and the handle stays the program's. It may call the handle in between,
- * with readings of CLOCK_BOOTTIME in ms, and takes messages and reports from it. */
+ * driver has the socket, the clock and the timer, and the handle stays the program's. It may call the handle in
+ * between, with readings of CLOCK_BOOTTIME in ms, and takes messages and reports from it. */
 
 /* Until when the node may have inputs: a state folder has to know before each. The driver reads and writes it in its
  * calls. */
@@ -378,8 +378,8 @@ struct dt_udp_batch {
 enum { DT_UDP_MAX_HEARD = 64 };
 
 /* Returns events of a service as dt_udp_next_event does, many at once: waits at most `wait_ms` ms for the first one,
- * sends and receives what is due, and puts what was made meanwhile on the wire. Of a driven node, and with `max_items` 0
- * of a driven service, it takes no events, and returns when something arrived or was due.
+ * sends and receives what is due, and puts what was made meanwhile on the wire. Of a driven node, and with `max_items`
+ * 0 of a driven service, it takes no events, and returns when something arrived or was due.
  *   DT_OK        `count` events, 0 if there was none in `wait_ms`, or a signal came
  *   DT_INVALID   of a node that isn't driven
  *   DT_NO_MEMORY, DT_STOPPED, DT_NOT_OPEN  the driver can't continue; `count` events waited before that */

@@ -3,7 +3,7 @@
 
 `tests/udp.py [CASE ..]`; all cases where none is named. It builds lib/udp with tests/udp/*.c over lib/libdeltat.a and
 runs them as processes over 127.0.0.1, ::1 and `localhost`, under the driver's own wait, poll, epoll and GLib's loop;
-through a relay that loses 1 %; with an end that is killed and started again; in a forked child; over a path that is
+through a relay that loses 1 %; with an end that is killed and started again; in a forked child; with services that the program opened; over a path that is
 too narrow for a segment; and with strangers: sixteen thousand that come and go, one whose address changes, and forgers;
 the state folder; and objects. Ends with 77 where there is no compiler or no archive; a case whose tool is missing
 says so.
@@ -432,6 +432,14 @@ def threads(built: Built, folder: pathlib.Path) -> str:
     return "500 calls"
 
 
+def driven(built: Built, folder: pathlib.Path) -> str:
+    """Services that the program opened itself, by batches of events; a keeper that refuses, and hooks."""
+    ran = subprocess.run([built("driven"), "3000"], capture_output=True, text=True, timeout=PATIENCE, check=False)
+    found = re.fullmatch(r"answered 3000 most (\d+)\n", ran.stdout)
+    wants(ran.returncode == 0 and found and int(found[1]) > 1, ran.stdout + ran.stderr[-2000:])
+    return f"3000 calls, up to {found[1]} events in a batch"
+
+
 def narrow(built: Built, folder: pathlib.Path) -> str:
     """A segment that doesn't fit the path is reported; one that fits passes."""
     if os.geteuid() or not shutil.which("unshare") or not shutil.which("ip"):
@@ -763,6 +771,7 @@ CASES: list[Callable[[Built, pathlib.Path], str]] = [
     stopped,
     forked,
     threads,
+    driven,
     narrow,
     learnt,
     rebinds,

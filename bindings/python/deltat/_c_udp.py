@@ -10,6 +10,7 @@ from typing import Any
 from . import _c
 
 ABI_VERSION = 1
+TRAILER = 34
 MAX_HEARD = 64
 
 
@@ -35,6 +36,7 @@ class Flag(enum.IntEnum):
     WITHOUT_BATCHES = 2
     WITHOUT_STAMPS = 4
     ALL_PORTS = 8
+    WITHOUT_WATCH = 32
     PARAMS_CHANGED = 16
 
 
@@ -52,6 +54,15 @@ class EventKind(enum.IntEnum):
     PUT_ENDED = 8
     FAILED = 9
     REPLY_UNCERTAIN = 10
+    ALARM = 11
+    ROOM = 12
+
+
+class Alarm(enum.IntEnum):
+    """`enum dt_udp_alarm`."""
+
+    CLOCK = 1
+    PARAMETERS = 2
 
 
 class Options(ctypes.Structure):
@@ -79,6 +90,7 @@ class Options(ctypes.Structure):
         ("max_peers", ctypes.c_uint32),
         ("report_kinds", ctypes.c_uint32),
         ("flags", ctypes.c_uint32),
+        ("max_waiting", ctypes.c_uint32),
     ]
 
 
@@ -131,6 +143,16 @@ class Counts(ctypes.Structure):
         ("clock_steps", ctypes.c_uint64),
         ("messages_lost", ctypes.c_uint64),
         ("messages_too_long", ctypes.c_uint64),
+        ("without_trailer", ctypes.c_uint64),
+        ("too_old", ctypes.c_uint64),
+        ("ages_unknown", ctypes.c_uint64),
+        ("other_parameters", ctypes.c_uint64),
+        ("clock_alarms", ctypes.c_uint64),
+        ("former_openings", ctypes.c_uint64),
+        ("early_openings", ctypes.c_uint64),
+        ("openings_proved", ctypes.c_uint64),
+        ("pings_in", ctypes.c_uint64),
+        ("pings_out", ctypes.c_uint64),
     ]
 
 
