@@ -113,7 +113,7 @@ static void close_services(struct pair *it) {
 static void call(struct pair *it, uint16_t from, uint16_t to) {
     struct dt_flow flow = {1, 2, from, to};
     uint8_t payload = 7;
-    must("dt_service_call", dt_service_call(it->a, it->now, &flow, &payload, 1, TIMEOUT).status);
+    must("dt_service_call", dt_service_call(it->a, it->now, &flow, &payload, 1, TIMEOUT, 0).status);
 }
 
 static struct dt_event next_event(dt_service *from) {
@@ -432,7 +432,7 @@ static void row_lossy(long n) {
         for (; open < n; open++) {
             struct dt_flow flow = {1, 2, 1, 20};
             static const uint8_t payload[50];
-            if (dt_service_call(it.a, it.now, &flow, payload, sizeof payload, PATIENCE).status != DT_OK) break;
+            if (dt_service_call(it.a, it.now, &flow, payload, sizeof payload, PATIENCE, 0).status != DT_OK) break;
         }
         leave(&over, it.b, false, it.now);
         leave(&over, it.a, true, it.now);

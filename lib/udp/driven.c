@@ -133,7 +133,7 @@ void dtu_driven_receive(dt_udp *u, struct arrival *it) {
     }
     u->core.link = peer->link;
     u->core.received = DT_OK;
-    if (!dtu_pass_in(u, it)) {
+    if (!dtu_pass_in(u, NULL, it)) { /* (nothing of it is governed) */
         u->driven.blocked |= u->core.received == DT_BLOCKED;
         return;
     }
