@@ -1,7 +1,6 @@
 /* Options, opening and closing. */
 #include "udp.h"
 #include <errno.h>
-#include <stdio.h>
 #include <stdlib.h>
 #include <string.h>
 #include <sys/mman.h>
@@ -175,7 +174,6 @@ dt_udp *dt_udp_open(const struct dt_udp_options *options, struct dt_udp_error *e
 
 void dt_udp_close(dt_udp *u) {
     if (u == NULL) return;
-    if (getenv("DBG")) for (size_t i = 0; i < u->peers.size; i++) for (struct peer *q = u->peers.buckets[i]; q; q = q->next) if (q->watch) { uint64_t a, b; dtu_core_totals(&u->core, &a, &b); dprintf(2, "DBG node %u under %lu counted %lu queued %lu settled %lu window %lu credit %ld base %lu aim fast %d above %d waits %d\n", q->node, q->watch->under_way, u->governing.counted, a, b, dt_watch_window(q->watch->rules), (long)q->watch->governor.credit, q->watch->governor.base[0], q->watch->governor.fast, q->watch->governor.above, q->watch->first_waiting != NULL); }
     (void)dtu_is_usable(u);
     dtu_core_close(&u->core);
     dtu_state_close(u);
