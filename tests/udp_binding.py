@@ -15,6 +15,7 @@ import pathlib
 import socket
 import sys
 import tempfile
+import threading
 import time
 from collections.abc import Callable, Iterator
 from contextlib import contextmanager
@@ -280,6 +281,23 @@ def neighbours() -> str:
     return "2 of 3 links"
 
 
+def idle() -> str:
+    """Nothing is due and nothing comes: a wait of 2.3 s takes as long, and one without end ends when a datagram comes."""
+    with (
+        socket.socket(socket.AF_INET, socket.SOCK_DGRAM) as near,
+        deltat.Udp(node_of(1, [1], {2: 1}), (HOST, 0), {2: (HOST, free_port())}) as udp,
+    ):
+        begun = time.monotonic()
+        wants(udp.poll(2.3) == [], "nothing comes")
+        wants(2.2 < time.monotonic() - begun < 10, f"it took {time.monotonic() - begun:.1f} s")
+        late = threading.Timer(1.5, lambda: near.sendto(bytes(40), udp.socket.getsockname()))
+        late.start()
+        begun = time.monotonic()
+        wants(udp.poll(None) == [] and udp.strangers == 1, "a stranger's datagram brings no message")
+        wants(time.monotonic() - begun > 1.4, f"it took {time.monotonic() - begun:.1f} s")
+    return "2.3 s, and without end"
+
+
 def unlisted() -> str:
     """A client by `deltat.Udp` that its service doesn't list answers the challenge, and is answered; its state folder
     has what the driver passed in."""
@@ -335,7 +353,7 @@ def large() -> str:
     return "12 calls"
 
 
-CASES = [calls, at_once, messages, uncertain, errors, neighbours, unlisted, large]
+CASES = [calls, at_once, messages, uncertain, errors, neighbours, idle, unlisted, large]
 
 
 def main() -> int:

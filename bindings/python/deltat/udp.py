@@ -182,9 +182,18 @@ class Udp:
 
     def _turn(self, timeout: float | None = 0.0) -> None:
         """Waits for so long at most, or until something is due; receives what arrived, and does what is due."""
-        wait_ms = LONGEST_WAIT_MS
-        if timeout is not None:
-            wait_ms = min(math.ceil(max(timeout, 0) * 1000), LONGEST_WAIT_MS)
+        while timeout is None or timeout * 1000 > LONGEST_WAIT_MS:
+            begun = time.monotonic()
+            self._turn_within(LONGEST_WAIT_MS)
+            # (it was so short because something was due, or a signal came)
+            is_short = time.monotonic() - begun < 0.95 * LONGEST_WAIT_MS / 1000
+            if self._driven.has_brought or is_short:
+                return
+            timeout = None if timeout is None else timeout - LONGEST_WAIT_MS / 1000
+        self._turn_within(math.ceil(max(timeout, 0) * 1000))
+
+    def _turn_within(self, wait_ms: int) -> None:
+        """The same, for as many ms as the driver waits by itself at most."""
         self._enter()
         if self._was_early:
             # (something may have come in since)
