@@ -75,7 +75,7 @@
  *     suffices.
  *   - The parameters are equal including `start`.
  *   - Every opening of a node but its first uses DT_START_AGAIN.
- *   - Services: every node of the network is a service, and no route is added while one is open.
+ *   - Services: every node of the network is a service.
  *
  * ---- 2 THE LOOP OF A PROGRAM ----
  *

@@ -42,7 +42,7 @@ use Rattle.dt_service_model.proofs.Turning.{end_keeps, happens_keeps}
 use Rattle.dt_service_laws.specs.Fates.{all_asked, all_by, lost_at, lost_by, still_in, told_at, told_in}
 use Rattle.dt_service_laws.specs.Histories.{Message, asked_as, at_node, at_the, count_of, in_turn, made_as}
 use Rattle.dt_service_laws.specs.Premises.{BreaksBy, KeepsDeed, KeepsFrom, KeepsTurn, KeepsTurns}
-use Rattle.dt_service_laws.specs.Services.{Arrives, Closes, Deed, Does, FindsNoMemory, Forgets, GivesKind, GivesReply, MakesCall, OpensAgain, Passes, PullsFrame, Raises, Services, TakesHappening, Ticks, Turn, node_after, node_does, node_with, services_after, services_by}
+use Rattle.dt_service_laws.specs.Services.{Arrives, Closes, CountsFlow, Deed, Does, FindsNoMemory, Forgets, GetsRoute, GivesKind, GivesReply, MakesCall, OpensAgain, Passes, PullsFrame, Raises, Services, TakesHappening, Ticks, Turn, node_after, node_does, node_with, services_after, services_by}
 use Rattle.dt_service_laws.specs.Tie.{AreSentOf, IsSentOf, finds_memory, has_memory}
 use Rattle.dt_service_laws.proofs.Answering.{count_append}
 use Rattle.dt_service_laws.proofs.Asked.{all_clear, first_none}
@@ -323,6 +323,8 @@ broken_open (GivesKind port kind) x y b = absurd b
 broken_open (Raises life) x y b = absurd b
 broken_open TakesHappening x y b = absurd b
 broken_open PullsFrame x y b = absurd b
+broken_open (GetsRoute route answer added) x y b = absurd b
+broken_open (CountsFlow flow counted) x y b = absurd b
 broken_open Closes x y b = absurd b
 broken_open (OpensAgain again options most life) x y b = absurd b
 broken_open (FindsNoMemory deed before) x y b = absurd b
@@ -337,6 +339,8 @@ broken_accounts (GivesKind port kind) x y b open_x = absurd b
 broken_accounts (Raises life) x y b open_x = absurd b
 broken_accounts TakesHappening x y b open_x = absurd b
 broken_accounts PullsFrame x y b open_x = absurd b
+broken_accounts (GetsRoute route answer added) x y b open_x = absurd b
+broken_accounts (CountsFlow flow counted) x y b open_x = absurd b
 broken_accounts Closes x y b open_x = absurd b
 broken_accounts (OpensAgain again options most life) x y b open_x = absurd b
 broken_accounts (FindsNoMemory deed before) x y b open_x = absurd b
@@ -352,6 +356,8 @@ deed_accounts setup net n (Arrives now link datagram waited) x keeps = accounts_
 deed_accounts setup net n (Raises life) x keeps = accounts_all _ _ _ _ _ (λ m. raise_sums m (is_life_in_use life x.book) life x.book)
 deed_accounts setup net n TakesHappening x keeps = accounts_all _ _ _ _ _ (λ m. take_sums m x.book)
 deed_accounts setup net n PullsFrame x keeps = accounts_all _ _ _ _ _ (λ m. sums_same m x.book [] refl)
+deed_accounts setup net n (GetsRoute route answer added) x keeps = accounts_all _ _ _ _ _ (λ m. sums_same m x.book [] refl)
+deed_accounts setup net n (CountsFlow flow counted) x keeps = accounts_all _ _ _ _ _ (λ m. sums_same m x.book [] refl)
 deed_accounts setup net n Closes x keeps = accounts_all _ _ _ _ _ (λ m. close_sums m x.book.closed x.book refl)
 deed_accounts setup net n (OpensAgain again options most life) x keeps = accounts_all _ _ _ _ _ (λ m. (let a = ap (ends_in m) (drop-nil (length (told_by x.book))) in record { sum = omega (arith, a) }))
 deed_accounts setup net n (FindsNoMemory deed after) x keeps = broken_accounts deed x after keeps.1 (broken_open deed x after keeps.1)

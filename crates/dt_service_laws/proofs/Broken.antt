@@ -39,7 +39,7 @@ use Rattle.dt_service_model.specs.Turns.{Node, happens, with_book}
 use Rattle.dt_service_model.specs.Whole.{is_open}
 use Rattle.dt_service_laws.specs.Histories.{Message, asked_as, call_by, count_of, reply_by, spelled}
 use Rattle.dt_service_laws.specs.Premises.{BreaksBy}
-use Rattle.dt_service_laws.specs.Services.{Arrives, Closes, Deed, FindsNoMemory, Forgets, GivesKind, GivesReply, MakesCall, OpensAgain, PullsFrame, Raises, TakesHappening, Ticks}
+use Rattle.dt_service_laws.specs.Services.{Arrives, Closes, CountsFlow, Deed, FindsNoMemory, Forgets, GetsRoute, GivesKind, GivesReply, MakesCall, OpensAgain, PullsFrame, Raises, TakesHappening, Ticks}
 use Rattle.dt_service_laws.specs.Tie.{finds_memory}
 use Rattle.dt_service_laws.proofs.Answering.{same_reversed}
 use Rattle.dt_service_laws.proofs.Asked.{all_clear, flows_kept, forgot_between, forgot_flows, goes_on, in_time_later, kept_between, may_send, not_false, posted, send_takes, send_unrefused, tick_does}
@@ -328,6 +328,8 @@ module _ (setup : Setup) (Good : Network → Type 0) (law : IsLawful setup Good)
   broken_came (Raises life) y keeps closed = absurd closed
   broken_came TakesHappening y keeps closed = absurd closed
   broken_came PullsFrame y keeps closed = absurd closed
+  broken_came (GetsRoute route answer added) y keeps closed = absurd closed
+  broken_came (CountsFlow flow counted) y keeps closed = absurd closed
   broken_came Closes y keeps closed = absurd closed
   broken_came (OpensAgain again options most life) y keeps closed = absurd closed
   broken_came (FindsNoMemory deed before) y keeps closed = absurd closed

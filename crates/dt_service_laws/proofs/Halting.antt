@@ -15,7 +15,7 @@ use Rattle.dt_service_model.specs.Turns.{Node, with_book}
 use Rattle.dt_service_model.proofs.Halting.{IsKeptToStop, end_stopped, turn_stopped}
 use Rattle.dt_service_laws.specs.Causes.{IsEventOf, moment_told}
 use Rattle.dt_service_laws.specs.Premises.{BreaksBy}
-use Rattle.dt_service_laws.specs.Services.{Arrives, Closes, Deed, FindsNoMemory, Forgets, GivesKind, GivesReply, MakesCall, OpensAgain, PullsFrame, Raises, TakesHappening, Ticks}
+use Rattle.dt_service_laws.specs.Services.{Arrives, Closes, CountsFlow, Deed, FindsNoMemory, Forgets, GetsRoute, GivesKind, GivesReply, MakesCall, OpensAgain, PullsFrame, Raises, TakesHappening, Ticks}
 
 -- each move of what is asked keeps it
 pub record IsKeptByDeeds (R : Node → Node → Type 0) (May : (now : ℕ) → Event (Unit {0}) → Node → Type 0) : Type 0 where
@@ -58,6 +58,8 @@ module _ (R : Node → Node → Type 0) (May : (now : ℕ) → Event (Unit {0}) 
   halts (Raises life) x y may b = absurd b
   halts TakesHappening x y may b = absurd b
   halts PullsFrame x y may b = absurd b
+  halts (GetsRoute route answer added) x y may b = absurd b
+  halts (CountsFlow flow counted) x y may b = absurd b
   halts Closes x y may b = absurd b
   halts (OpensAgain again options most life) x y may b = absurd b
   halts (FindsNoMemory deed before) x y may b = absurd b

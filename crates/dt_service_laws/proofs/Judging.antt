@@ -41,7 +41,7 @@ use Rattle.dt_service_laws.specs.Fates.{told_at, told_in}
 use Rattle.dt_service_laws.specs.Histories.{Message, answer_in, answers_at, at_node, at_the, each_of, in_turn}
 use Rattle.dt_service_laws.specs.Histories.{told_by as told_by_turn}
 use Rattle.dt_service_laws.specs.Premises.{KeepsDeed, KeepsFrom, KeepsTurn, KeepsTurns}
-use Rattle.dt_service_laws.specs.Services.{Arrives, Closes, Deed, Does, FindsNoMemory, Forgets, GivesKind, GivesReply, MakesCall, OpensAgain, Passes, PullsFrame, Raises, Services, TakesHappening, Ticks, Turn, node_after, node_does, node_with, services_after, services_by, told_between}
+use Rattle.dt_service_laws.specs.Services.{Arrives, Closes, CountsFlow, Deed, Does, FindsNoMemory, Forgets, GetsRoute, GivesKind, GivesReply, MakesCall, OpensAgain, Passes, PullsFrame, Raises, Services, TakesHappening, Ticks, Turn, node_after, node_does, node_with, services_after, services_by, told_between}
 use Rattle.dt_service_laws.proofs.Accounts.{broken_open, closed_again, closed_now, either_false, either_first, taken_told, told_beside, told_closing, told_more, told_of}
 use Rattle.dt_service_laws.proofs.Answering.{contains_first, contains_more, contains_parts, not_in_none}
 use Rattle.dt_service_laws.proofs.Asked.{all_clear}
@@ -52,6 +52,7 @@ use Rattle.dt_service_model.proofs.Halting.{Any}
 use Rattle.dt_service_laws.proofs.Halting.{Halts, IsKeptByDeeds, halts}
 use Rattle.dt_service_laws.proofs.Quiet.{all_filtered}
 use Rattle.dt_service_model.proofs.Walking.{read_through}
+use Rattle.dt_service_laws.proofs.Routing.{route_keeps}
 
 -- A CALL after a turn: it has given up nothing, and its deadline is to come
 pub record IsCalm (latest : ℕ) (call : OpenCall) : Type 0 where
@@ -325,6 +326,11 @@ deed_judged setup net n (Arrives now link datagram waited) x keeps sure = arrive
 deed_judged setup net n (Raises life) x keeps sure = raise_judged (is_life_in_use life x.book) life x sure
 deed_judged setup net n TakesHappening x keeps sure = nothing_told TakesHappening x (node_after setup n TakesHappening x) (taken_told x.book.happenings x.book refl) (λ open_y. taken_sure (IsCalm x.endpoint.latest) x.book.happenings x.book (sure (sym (taken_closed x.book.happenings x.book) ∙ open_y)))
 deed_judged setup net n PullsFrame x keeps sure = stays PullsFrame x (node_after setup n PullsFrame x) refl sure
+deed_judged setup net n (GetsRoute route answer added) x keeps sure =
+    let y = node_after setup n (GetsRoute route answer added) x in
+    stays (GetsRoute route answer added) x y refl (λ open_y. subst (λ (latest : ℕ). All (IsCalm latest) x.book.calls) (sym (route_keeps route answer x.endpoint added keeps).latest) (sure open_y))
+deed_judged setup net n (CountsFlow flow true) x keeps sure = stays (CountsFlow flow true) x (node_after setup n (CountsFlow flow true) x) refl sure
+deed_judged setup net n (CountsFlow flow false) x keeps sure = stays (CountsFlow flow false) x (node_after setup n (CountsFlow flow false) x) refl sure
 deed_judged setup net n Closes x keeps sure = close_judged x.book.closed x refl sure
 deed_judged setup net n (OpensAgain again options most life) x keeps sure = nothing_told (OpensAgain again options most life) x (node_after setup n (OpensAgain again options most life) x) (drop-nil (length (told_by x.book))) (λ open_y. All-nil (IsCalm (node_after setup n (OpensAgain again options most life) x).endpoint.latest))
 deed_judged setup net n (FindsNoMemory deed after) x keeps sure =

@@ -2,6 +2,7 @@ pub mod Orders
 pub mod Wholes
 pub mod Pieces
 mod Readings
+mod Routing
 mod Halting
 mod Flows
 mod Moves
@@ -36,3 +37,4 @@ mod Accounts
 mod Causes
 mod Judging
 mod Restarted
+mod Unlisted

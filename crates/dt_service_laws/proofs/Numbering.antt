@@ -35,7 +35,7 @@ use Rattle.dt_service_model.specs.Turns.{Node, happens, turn, turn_end, with_boo
 use Rattle.dt_service_laws.specs.Fates.{all_asked, all_by, calls_at}
 use Rattle.dt_service_laws.specs.Histories.{Message, asked_as, at_node, at_the, call_asked, call_by, count_of, in_turn, in_turns, life_by, lives_at, made_as}
 use Rattle.dt_service_laws.specs.Premises.{Differ, IsNotIn, KeepsDeed, KeepsFrom, KeepsTurn, KeepsTurns}
-use Rattle.dt_service_laws.specs.Services.{Arrives, Closes, Deed, Does, FindsNoMemory, Forgets, GivesKind, GivesReply, MakesCall, OpensAgain, Passes, PullsFrame, Raises, Services, TakesHappening, Ticks, Turn, node_after, node_does, node_with, services_after}
+use Rattle.dt_service_laws.specs.Services.{Arrives, Closes, CountsFlow, Deed, Does, FindsNoMemory, Forgets, GetsRoute, GivesKind, GivesReply, MakesCall, OpensAgain, Passes, PullsFrame, Raises, Services, TakesHappening, Ticks, Turn, node_after, node_does, node_with, services_after}
 use Rattle.dt_service_laws.proofs.Answering.{count_append, number_is}
 use Rattle.dt_service_laws.proofs.Asked.{all_clear, first_none}
 use Rattle.dt_service_laws.proofs.Keeping.{Keeps, end_keeps, happens_keeps, keeps_quietly, keeps_then, turn_keeps}
@@ -118,6 +118,8 @@ broken_numbers (Arrives now link datagram waited) x y l = stay refl refl l.life 
 broken_numbers (Raises life) x y l = stay refl refl l.life (λ unclosed. absurd (closed_not y.book.closed l.closed unclosed))
 broken_numbers TakesHappening x y l = stay refl refl l.life (λ unclosed. absurd (closed_not y.book.closed l.closed unclosed))
 broken_numbers PullsFrame x y l = stay refl refl l.life (λ unclosed. absurd (closed_not y.book.closed l.closed unclosed))
+broken_numbers (GetsRoute route answer added) x y l = stay refl refl l.life (λ unclosed. absurd (closed_not y.book.closed l.closed unclosed))
+broken_numbers (CountsFlow flow counted) x y l = stay refl refl l.life (λ unclosed. absurd (closed_not y.book.closed l.closed unclosed))
 broken_numbers Closes x y l = stay refl refl l.life (λ unclosed. absurd (closed_not y.book.closed l.closed unclosed))
 broken_numbers (OpensAgain again options most life) x y l = stay refl refl l.life (λ unclosed. absurd (closed_not y.book.closed l.closed unclosed))
 broken_numbers (FindsNoMemory deed before) x y l = broken_numbers deed x y l
@@ -187,6 +189,8 @@ deed_numbers setup n net (Arrives now link datagram waited) x keeps = stays_numb
 deed_numbers setup n net (Raises life) x keeps = raise_numbers (is_life_in_use life x.book) life x.book
 deed_numbers setup n net TakesHappening x keeps = stays_numbers x.book _ (taken_stays x.book.happenings x.book)
 deed_numbers setup n net PullsFrame x keeps = stay_on refl refl refl refl (λ c. c)
+deed_numbers setup n net (GetsRoute route answer added) x keeps = stay_on refl refl refl refl (λ c. c)
+deed_numbers setup n net (CountsFlow flow counted) x keeps = stay_on refl refl refl refl (λ c. c)
 deed_numbers setup n net Closes x keeps = stay_on refl refl refl refl (λ c. refl)
 deed_numbers setup n net (OpensAgain again options most life) x keeps = begin refl refl
 deed_numbers setup n net (FindsNoMemory deed after) x keeps = broken_numbers deed x after (broken_leaves deed x after keeps.1)
@@ -323,6 +327,8 @@ module _ (setup : Setup) (c : ℕ) where
   two_asked m f g apart (Raises life) x = omega arith
   two_asked m f g apart TakesHappening x = omega arith
   two_asked m f g apart PullsFrame x = omega arith
+  two_asked m f g apart (GetsRoute route answer added) x = omega arith
+  two_asked m f g apart (CountsFlow flow counted) x = omega arith
   two_asked m f g apart Closes x = omega arith
   two_asked m f g apart (OpensAgain again options most life) x = omega arith
   two_asked m f g apart (FindsNoMemory deed after) x = two_asked m f g apart deed x
@@ -337,6 +343,8 @@ module _ (setup : Setup) (c : ℕ) where
   two_by m f g apart (Raises life) x = omega arith
   two_by m f g apart TakesHappening x = omega arith
   two_by m f g apart PullsFrame x = omega arith
+  two_by m f g apart (GetsRoute route answer added) x = omega arith
+  two_by m f g apart (CountsFlow flow counted) x = omega arith
   two_by m f g apart Closes x = omega arith
   two_by m f g apart (OpensAgain again options most life) x = omega arith
   two_by m f g apart (FindsNoMemory deed after) x = two_asked m f g apart deed x

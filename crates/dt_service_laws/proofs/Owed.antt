@@ -9,7 +9,7 @@ use Rattle.dt_service_model.specs.Asked.{message_event, next_number}
 use Rattle.dt_service_model.specs.Names.{to_u64}
 use Rattle.dt_service_model.specs.Turns.{Node, happens}
 use Rattle.dt_service_laws.specs.Premises as owed
-use Rattle.dt_service_laws.specs.Services.{Arrives, Closes, Deed, Does, FindsNoMemory, Forgets, GivesKind, GivesReply, MakesCall, OpensAgain, Passes, PullsFrame, Raises, Services, TakesHappening, Ticks, Turn, node_at, services_after}
+use Rattle.dt_service_laws.specs.Services.{Arrives, Closes, CountsFlow, Deed, Does, FindsNoMemory, Forgets, GetsRoute, GivesKind, GivesReply, MakesCall, OpensAgain, Passes, PullsFrame, Raises, Services, TakesHappening, Ticks, Turn, node_at, services_after}
 
 abbrev pub ReadsFlows : Node → Type 0
 ReadsFlows x = All IsFlow x.book.unread
@@ -25,6 +25,8 @@ ReadsIn (Arrives now link datagram waited) x = arrive_refusal link datagram wait
 ReadsIn (Raises life) x = Unit {0}
 ReadsIn TakesHappening x = Unit {0}
 ReadsIn PullsFrame x = Unit {0}
+ReadsIn (GetsRoute route answer added) x = Unit {0}
+ReadsIn (CountsFlow flow counted) x = Unit {0}
 ReadsIn Closes x = Unit {0}
 ReadsIn (OpensAgain again options most life) x = Unit {0}
 ReadsIn (FindsNoMemory deed after) x = ReadsIn deed x

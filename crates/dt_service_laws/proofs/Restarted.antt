@@ -27,7 +27,7 @@ pub flow : IsFlow main_flow
 flow = record { from = omega arith; from_port = omega arith; to = omega arith; to_port = omega arith }
 
 -- a frame that left as the k-th
-abbrev the_frame : ℕ → Services → Flight
+abbrev pub the_frame : ℕ → Services → Flight
 the_frame k s = get_or s.network.left k no_flight
 
 -- THE FIRST CALL is handed out

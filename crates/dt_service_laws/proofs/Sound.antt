@@ -40,7 +40,7 @@ use Rattle.dt_service_model.specs.Names.{from_u64, to_u64, same_number, same_tok
 use Rattle.dt_service_model.specs.Turns.{Node, happens, turn, turn_end, with_book}
 use Rattle.dt_service_laws.specs.Histories.{Message, asked_as, call_asked, call_by, made_as, replied_as, reply_asked, reply_by, spelled}
 use Rattle.dt_service_laws.specs.Premises.{IsLife, IsServed, KeepsDeed, KeepsKind}
-use Rattle.dt_service_laws.specs.Services.{Arrives, Closes, Deed, FindsNoMemory, Forgets, GivesKind, GivesReply, MakesCall, OpensAgain, PullsFrame, Raises, TakesHappening, Ticks, node_after}
+use Rattle.dt_service_laws.specs.Services.{Arrives, Closes, CountsFlow, Deed, FindsNoMemory, Forgets, GetsRoute, GivesKind, GivesReply, MakesCall, OpensAgain, PullsFrame, Raises, TakesHappening, Ticks, node_after}
 use Rattle.dt_service_laws.proofs.Asked.{all_clear, first_none, goes_on, not_false}
 use Rattle.dt_service_laws.proofs.Keeping.{IsOfService, Keeps, end_keeps, happens_keeps, keeps_quietly, turn_keeps}
 use Rattle.dt_service_laws.proofs.Quiet.{close_quiet, forgotten_quiet}
@@ -167,6 +167,8 @@ module _ (kinds : (node port : ℕ) → PortKind) (n : ℕ) where
   sound_deed setup m x (Raises life) agrees keeps s = raise_sound (is_life_in_use life x.book) life x.book keeps s
   sound_deed setup m x TakesHappening agrees keeps s = taken_sound x.book.happenings x.book s
   sound_deed setup m x PullsFrame agrees keeps s = s
+  sound_deed setup m x (GetsRoute route answer added) agrees keeps s = s
+  sound_deed setup m x (CountsFlow flow counted) agrees keeps s = s
   sound_deed setup m x Closes agrees keeps s = sound_keeps x.book _ (keeps_quietly x.book _ (close_quiet x.book)) s
   sound_deed setup m x (OpensAgain again options most life) agrees keeps s = new_sound most life keeps.1
   sound_deed setup m x (FindsNoMemory deed after) agrees keeps s =
@@ -221,6 +223,8 @@ asked_is f (Arrives now link datagram waited) x = inl refl
 asked_is f (Raises life) x = inl refl
 asked_is f TakesHappening x = inl refl
 asked_is f PullsFrame x = inl refl
+asked_is f (GetsRoute route answer added) x = inl refl
+asked_is f (CountsFlow flow counted) x = inl refl
 asked_is f Closes x = inl refl
 asked_is f (OpensAgain again options most life) x = inl refl
 asked_is f (FindsNoMemory deed after) x = asked_is f deed x
@@ -235,6 +239,8 @@ call_is f (Arrives now link datagram waited) x = inl refl
 call_is f (Raises life) x = inl refl
 call_is f TakesHappening x = inl refl
 call_is f PullsFrame x = inl refl
+call_is f (GetsRoute route answer added) x = inl refl
+call_is f (CountsFlow flow counted) x = inl refl
 call_is f Closes x = inl refl
 call_is f (OpensAgain again options most life) x = inl refl
 call_is f (FindsNoMemory deed after) x = asked_is f deed x
@@ -293,6 +299,8 @@ asked_reply f (Arrives now link datagram waited) x = inl refl
 asked_reply f (Raises life) x = inl refl
 asked_reply f TakesHappening x = inl refl
 asked_reply f PullsFrame x = inl refl
+asked_reply f (GetsRoute route answer added) x = inl refl
+asked_reply f (CountsFlow flow counted) x = inl refl
 asked_reply f Closes x = inl refl
 asked_reply f (OpensAgain again options most life) x = inl refl
 asked_reply f (FindsNoMemory deed after) x = asked_reply f deed x
@@ -307,6 +315,8 @@ reply_is f (Arrives now link datagram waited) x = inl refl
 reply_is f (Raises life) x = inl refl
 reply_is f TakesHappening x = inl refl
 reply_is f PullsFrame x = inl refl
+reply_is f (GetsRoute route answer added) x = inl refl
+reply_is f (CountsFlow flow counted) x = inl refl
 reply_is f Closes x = inl refl
 reply_is f (OpensAgain again options most life) x = inl refl
 reply_is f (FindsNoMemory deed after) x = asked_reply f deed x
@@ -384,6 +394,8 @@ asked_fits f (Arrives now link datagram waited) x life = tt
 asked_fits f (Raises l) x life = tt
 asked_fits f TakesHappening x life = tt
 asked_fits f PullsFrame x life = tt
+asked_fits f (GetsRoute route answer added) x life = tt
+asked_fits f (CountsFlow flow counted) x life = tt
 asked_fits f Closes x life = tt
 asked_fits f (OpensAgain again routes most l) x life = tt
 asked_fits f (FindsNoMemory deed after) x life = asked_fits f deed x life
@@ -398,6 +410,8 @@ calls_fit f (Arrives now link datagram waited) x life = tt
 calls_fit f (Raises l) x life = tt
 calls_fit f TakesHappening x life = tt
 calls_fit f PullsFrame x life = tt
+calls_fit f (GetsRoute route answer added) x life = tt
+calls_fit f (CountsFlow flow counted) x life = tt
 calls_fit f Closes x life = tt
 calls_fit f (OpensAgain again routes most l) x life = tt
 calls_fit f (FindsNoMemory deed after) x life = asked_fits f deed x life

@@ -20,7 +20,7 @@ use Rattle.dt_endpoint.specs.Endpoints.{EndpointValue, moment_of}
 use Rattle.dt_network.specs.Duties.{KeepsDuties}
 use Rattle.dt_network.specs.Network.{Network, Setup}
 use Rattle.dt_network.specs.Octets.{AreTaken, all_read}
-use Rattle.dt_network.specs.Steps.{AreSteps, Calls, DoesFrom, OpenAgain, Pass, PullFrame, Step, network_by}
+use Rattle.dt_network.specs.Steps.{AreSteps, Calls, DoesFrom, OpenAgain, Pass, PullFrame, Step, network_by, AddRoute, Follow}
 use Rattle.dt_network.specs.Duties.{KeepsFrom as CallKeeps}
 use Rattle.dt_service_model.specs.declared.happenings.Happening.{Happening}
 use Rattle.dt_service_model.specs.declared.names.CallNumber.{CallNumber}
@@ -33,7 +33,7 @@ use Rattle.dt_service_model.specs.CallBook.{CallBook, kind_in}
 use Rattle.dt_service_model.specs.Turns.{Node, happens}
 use Rattle.dt_service_laws.specs.Histories.{Message, answer_in, answers_at, at_node, at_the, call_by, calls_on, count_of, in_turn, in_turns, replied_as, replies_on, reply_by, request_in, requests_on, told_by, spelled}
 use Rattle.dt_service_laws.specs.Orders.{AreSomeOf, none}
-use Rattle.dt_service_laws.specs.Services.{Arrives, Closes, Deed, Does, FindsNoMemory, Forgets, GivesKind, GivesReply, MakesCall, OpensAgain, Passes, PullsFrame, Raises, Services, TakesHappening, Ticks, Turn, node_after, node_does, node_with, services_after, with_node}
+use Rattle.dt_service_laws.specs.Services.{Arrives, Closes, CountsFlow, Deed, Does, FindsNoMemory, Forgets, GetsRoute, GivesKind, GivesReply, MakesCall, OpensAgain, Passes, PullsFrame, Raises, Services, TakesHappening, Ticks, Turn, node_after, node_does, node_with, services_after, with_node, counted_if}
 use Rattle.dt_service_laws.specs.Tie.{AreSentOf, finds_memory, has_memory}
 use Rattle.dt_service_laws.specs.Wholes.{begun_after, messages_from}
 use Rattle.dt_service_laws.proofs.Answering.{IsOther, count_append, same_reversed}
@@ -53,6 +53,7 @@ use Rattle.dt_service_laws.proofs.Sound.{call_is, reply_is}
 use Rattle.dt_service_laws.proofs.Runs.{IsAt, duties_append, steps_append, written_there}
 use Rattle.dt_service_laws.proofs.Sending.{taken_parts, takes_more, takes_nothing}
 use Rattle.dt_service_laws.proofs.Telling.{read_append, said}
+use Rattle.dt_service_laws.proofs.Routing.{route_keeps}
 
 -- what is beside an endpoint
 kind_between : (port : ℕ) (o : Option PortKind) (kind : PortKind) (h : CallBook) → ((with_port port o kind h).begun ≡ h.begun) × ((with_port port o kind h).happenings ≡ h.happenings)
@@ -107,6 +108,11 @@ taken_closes : (told : List Happening) (h : CallBook) → h.closed ≡ true → 
 taken_closes [] h closed = closed_closes h.closed h closed
 taken_closes (x ∷ told) h closed = closed
 
+-- what goes on is on, or closed
+on_after : (x y : Node) → y.endpoint.spent ≡ x.endpoint.spent → y.book.closed ≡ x.book.closed → IsOn x → IsOn y
+on_after x y spent closed (inl u) = inl (spent ∙ u)
+on_after x y spent closed (inr c) = inr (closed ∙ c)
+
 module _ (setup : Setup) (Good : Network → Type 0) (law : IsLawful setup Good) where
   module _ (n : ℕ) (m : Network) (x : Node) (there : IsAt n m x.endpoint) (on : IsOn x) (good : Good m) where
     -- what is done beside the endpoint alone
@@ -118,6 +124,19 @@ module _ (setup : Setup) (Good : Network → Type 0) (law : IsLawful setup Good)
       gone = λ t. (let l = fewer t in let no = ap (count_of t.number) (replies t) in omega (arith, l, no));
       reaches = posted_nothing setup n deed x h (record x { book = h }) m sent (comes_quietly setup n x h m there (on_still x h on closes) (λ g b tracks. subst (λ (es : List (Flow × List ℕ)). Tracks g b es) (sym begun) tracks) told);
     }
+
+    -- a flow is counted, or there was no memory for it
+    counts : (flow : Flow) (counted : Bool) → DoesFrom setup n (Follow flow counted) (counted_if counted flow x.endpoint) (Some x.endpoint) → (counted_if counted flow x.endpoint).spent ≡ x.endpoint.spent → Came setup n (CountsFlow flow counted) x (node_after setup n (CountsFlow flow counted) x) m
+    counts flow counted does spent =
+        let y = node_after setup n (CountsFlow flow counted) x in
+        let step = Calls n (Follow flow counted) y.endpoint in
+        record {
+          mid = x.book;
+          of = kept_of (λ g. []) x.book.calls _ (kept_itself x.book.calls);
+          gone = none_gone x.book x.book (same_open x.book);
+          reaches = comes_by_step setup n x m y step (subst (DoesFrom setup n (Follow flow counted) y.endpoint) (sym there) does, tt) (subst (CallKeeps setup m n (Follow flow counted)) (sym there) tt, tt) refl
+              (on_after x y spent refl on) (λ g. refl) (λ g. takes_more g step [] [] [] (λ first t. t) (takes_nothing g)) (λ g b tracks. tracks) (drop-length x.book.happenings);
+        }
 
     pub came : (deed : Deed) → KeepsDeed setup m n deed x → Came setup n deed x (node_after setup n deed x) m
     came (GivesKind port kind) keeps =
@@ -180,6 +199,18 @@ module _ (setup : Setup) (Good : Network → Type 0) (law : IsLawful setup Good)
           gone = none_gone x.book x.book (same_open x.book);
           reaches = comes_by_step setup n x m y (Calls n PullFrame y.endpoint) (subst (DoesFrom setup n PullFrame y.endpoint) (sym there) refl, tt) (subst (CallKeeps setup m n PullFrame) (sym there) tt, tt) refl on (λ g. refl) (λ g. takes_more g (Calls n PullFrame y.endpoint) [] [] [] (λ first t. t) (takes_nothing g)) (λ g b tracks. tracks) (drop-length x.book.happenings);
         }
+    came (GetsRoute route answer added) keeps =
+        let y = node_after setup n (GetsRoute route answer added) x in
+        let step = Calls n (AddRoute route answer) added in
+        record {
+          mid = x.book;
+          of = kept_of (λ g. []) x.book.calls _ (kept_itself x.book.calls);
+          gone = none_gone x.book x.book (same_open x.book);
+          reaches = comes_by_step setup n x m y step (subst (DoesFrom setup n (AddRoute route answer) added) (sym there) keeps.0, tt) (subst (CallKeeps setup m n (AddRoute route answer)) (sym there) tt, tt) refl
+              (on_after x y (route_keeps route answer x.endpoint added keeps.0).spent refl on) (λ g. refl) (λ g. takes_more g step [] [] [] (λ first t. t) (takes_nothing g)) (λ g b tracks. tracks) (drop-length x.book.happenings);
+        }
+    came (CountsFlow flow true) keeps = counts flow true refl refl
+    came (CountsFlow flow false) keeps = counts flow false refl refl
     came Closes keeps = record {
       mid = close x.book;
       of = kept_of (λ g. []) x.book.calls _ (close_quiet x.book).waits;

@@ -9,6 +9,7 @@ use Rattle.dt_reports.specs.declared.faults.Refusal.{Refusal}
 use Rattle.dt_layout.specs.declared.faults.LayoutFault.{LayoutFault}
 use Rattle.dt_layout.specs.Carried.{life_of}
 use Rattle.dt_layout.specs.Reading.{gram_fault}
+use Rattle.dt_reports.specs.Told.{Told}
 use Rattle.dt_world_laws.specs.Tellings.{AllTold}
 use Rattle.dt_world_model.specs.Station.{Event, Read, Tick}
 use Rattle.dt_world_model.specs.Tables.{look, same_flow}
@@ -45,7 +46,7 @@ use Rattle.dt_service_model.specs.Turns.{Node, happens, most_read, turn, turn_en
 use Rattle.dt_service_model.specs.Whole.{begun_of, grown, is_open, is_waiting_call, take_as, take_piece, take_reply_at, take_whole, without_token}
 use Rattle.dt_service_laws.specs.Causes.{IsEventOf, moment_told}
 use Rattle.dt_service_laws.specs.Premises as premise
-use Rattle.dt_service_laws.specs.Services.{Arrives, Closes, Deed, Does, FindsNoMemory, Forgets, GivesKind, GivesReply, MakesCall, OpensAgain, Passes, PullsFrame, Raises, Services, TakesHappening, Ticks, Turn, new_services, node_after, node_does, node_with, services_after}
+use Rattle.dt_service_laws.specs.Services.{Arrives, Closes, CountsFlow, Deed, Does, FindsNoMemory, Forgets, GetsRoute, GivesKind, GivesReply, MakesCall, OpensAgain, Passes, PullsFrame, Raises, Services, TakesHappening, Ticks, Turn, new_services, node_after, node_does, node_with, services_after}
 use Rattle.dt_service_laws.proofs.Asked.{flows_kept, forgot_flows}
 use Rattle.dt_service_laws.proofs.Elsewhere.{IsLawful}
 use Rattle.dt_service_laws.proofs.Everywhere.{IsOfEach, written_each}
@@ -56,6 +57,7 @@ use Rattle.dt_service_laws.proofs.Owed.{KeepsFrom, KeepsTurn, KeepsTurns, ReadsI
 use Rattle.dt_service_laws.proofs.Quiet.{all_filtered}
 use Rattle.dt_service_laws.proofs.Turned.{AreOn, Waits, and_then, made_in, turned}
 use Rattle.dt_service_model.proofs.Walking.{IsKept, end_kept}
+use Rattle.dt_service_laws.proofs.Routing.{route_keeps}
 
 -- A MESSAGE that came whole changes nothing of it
 reply_unread : (o : Option ℕ) (n : CallNumber) (answer : List ℕ) (h : CallBook) → (take_reply_at o n answer h).unread ≡ h.unread
@@ -214,6 +216,8 @@ module _ (setup : Setup) (Good : Network → Type 0) (law : IsLawful setup Good)
   halted_tells n m x y good (Raises life) keeps b event own = absurd own
   halted_tells n m x y good TakesHappening keeps b event own = absurd own
   halted_tells n m x y good PullsFrame keeps b event own = absurd own
+  halted_tells n m x y good (GetsRoute route answer added) keeps b event own = absurd own
+  halted_tells n m x y good (CountsFlow flow counted) keeps b event own = absurd own
   halted_tells n m x y good Closes keeps b event own = absurd own
   halted_tells n m x y good (OpensAgain again options most life) keeps b event own = absurd own
   halted_tells n m x y good (FindsNoMemory deed after) keeps b event own = absurd own
@@ -243,6 +247,9 @@ module _ (setup : Setup) (Good : Network → Type 0) (law : IsLawful setup Good)
   deed_reads n m x good (Raises life) keeps h = (tt, raise_reads (is_life_in_use life x.book) life x h)
   deed_reads n m x good TakesHappening keeps h = (tt, record { unread = subst (λ (fs : List Flow). All IsFlow fs) (sym (taken_unread x.book.happenings x.book)) h.unread; waiting = h.waiting })
   deed_reads n m x good PullsFrame keeps h = (tt, record { unread = h.unread; waiting = h.waiting })
+  deed_reads n m x good (GetsRoute route answer added) keeps h = (tt, record { unread = h.unread; waiting = subst (λ (rs : List Told). All TellsFlow rs) (sym (route_keeps route answer x.endpoint added keeps).reports) h.waiting })
+  deed_reads n m x good (CountsFlow flow true) keeps h = (tt, record { unread = h.unread; waiting = h.waiting })
+  deed_reads n m x good (CountsFlow flow false) keeps h = (tt, record { unread = h.unread; waiting = h.waiting })
   deed_reads n m x good Closes keeps h = (tt, record { unread = All-nil IsFlow; waiting = h.waiting })
   deed_reads n m x good (OpensAgain again options most life) keeps h = (tt, record { unread = All-nil IsFlow; waiting = All-nil TellsFlow })
   deed_reads n m x good (FindsNoMemory deed after) keeps h = ((deed_reads n m x good deed keeps.0 h).0, halted_reads x after h (halts Reads Tellings reading_stopped deed x after (halted_tells n m x after good deed keeps.0 keeps.1) keeps.1))

@@ -21,7 +21,7 @@ use Rattle.dt_service_model.specs.Names.{to_u64}
 use Rattle.dt_service_model.specs.Turns.{Node, happens, most_read, with_book}
 use Rattle.dt_service_model.specs.Whole.{take_piece}
 use Rattle.dt_service_laws.specs.Fates.{told_in}
-use Rattle.dt_service_laws.specs.Services.{Arrives, Closes, Deed, Does, FindsNoMemory, Forgets, GivesKind, GivesReply, MakesCall, OpensAgain, Passes, PullsFrame, Raises, Services, TakesHappening, Ticks, Turn, node_after, node_at, services_after}
+use Rattle.dt_service_laws.specs.Services.{Arrives, Closes, CountsFlow, Deed, Does, FindsNoMemory, Forgets, GetsRoute, GivesKind, GivesReply, MakesCall, OpensAgain, Passes, PullsFrame, Raises, Services, TakesHappening, Ticks, Turn, node_after, node_at, services_after}
 
 -- calls stay, and what was told
 pub record LeavesCalls (h k : CallBook) : Type 0 where
@@ -40,6 +40,8 @@ moment_told (GivesKind port kind) = 0
 moment_told (Raises life) = 0
 moment_told TakesHappening = 0
 moment_told PullsFrame = 0
+moment_told (GetsRoute route answer added) = 0
+moment_told (CountsFlow flow counted) = 0
 moment_told Closes = 0
 moment_told (OpensAgain again options most life) = 0
 moment_told (FindsNoMemory deed after) = moment_told deed
@@ -55,6 +57,8 @@ IsEventOf (GivesKind port kind) event = ⊥
 IsEventOf (Raises life) event = ⊥
 IsEventOf TakesHappening event = ⊥
 IsEventOf PullsFrame event = ⊥
+IsEventOf (GetsRoute route answer added) event = ⊥
+IsEventOf (CountsFlow flow counted) event = ⊥
 IsEventOf Closes event = ⊥
 IsEventOf (OpensAgain again options most life) event = ⊥
 IsEventOf (FindsNoMemory deed after) event = ⊥

@@ -9,7 +9,7 @@ use Rattle.dt_service_model.specs.Ends.{told_by}
 use Rattle.dt_service_model.specs.CallBook.{CallBook}
 use Rattle.dt_service_model.specs.Turns.{Node}
 use Rattle.dt_service_laws.specs.Histories.{Message, asked_as, at_the, in_turns, made_as}
-use Rattle.dt_service_laws.specs.Services.{Arrives, Closes, Deed, FindsNoMemory, Forgets, GivesKind, GivesReply, MakesCall, OpensAgain, PullsFrame, Raises, Services, TakesHappening, Ticks, Turn, node_after}
+use Rattle.dt_service_laws.specs.Services.{Arrives, Closes, CountsFlow, Deed, FindsNoMemory, Forgets, GetsRoute, GivesKind, GivesReply, MakesCall, OpensAgain, PullsFrame, Raises, Services, TakesHappening, Ticks, Turn, node_after}
 
 -- THE CALLS that are made at a node, on whatever flow. One that found no memory may have been made
 abbrev pub all_asked : Deed → Node → List Message
@@ -22,6 +22,8 @@ all_asked (Arrives now link datagram waited) x = []
 all_asked (Raises life) x = []
 all_asked TakesHappening x = []
 all_asked PullsFrame x = []
+all_asked (GetsRoute route answer added) x = []
+all_asked (CountsFlow flow counted) x = []
 all_asked Closes x = []
 all_asked (OpensAgain again options most life) x = []
 all_asked (FindsNoMemory deed after) x = all_asked deed x
@@ -36,6 +38,8 @@ all_by (Arrives now link datagram waited) x = []
 all_by (Raises life) x = []
 all_by TakesHappening x = []
 all_by PullsFrame x = []
+all_by (GetsRoute route answer added) x = []
+all_by (CountsFlow flow counted) x = []
 all_by Closes x = []
 all_by (OpensAgain again options most life) x = []
 all_by (FindsNoMemory deed after) x = all_asked deed x
@@ -66,6 +70,8 @@ lost_by (Arrives now link datagram waited) x = []
 lost_by (Raises life) x = []
 lost_by TakesHappening x = []
 lost_by PullsFrame x = []
+lost_by (GetsRoute route answer added) x = []
+lost_by (CountsFlow flow counted) x = []
 lost_by Closes x = []
 lost_by (FindsNoMemory deed after) x = []
 

@@ -17,7 +17,7 @@ use Rattle.dt_service_model.specs.declared.names.Token.{Token}
 use Rattle.dt_service_model.specs.Asked.{call, call_refusals, is_life_in_use, next_number, reply, reply_refusals}
 use Rattle.dt_service_model.specs.Names.{to_u64, same_number}
 use Rattle.dt_service_model.specs.Turns.{Node}
-use Rattle.dt_service_laws.specs.Services.{Arrives, Closes, Deed, Does, FindsNoMemory, Forgets, GivesKind, GivesReply, MakesCall, OpensAgain, Passes, PullsFrame, Raises, Services, TakesHappening, Ticks, Turn, node_after, node_at, services_after, told_between}
+use Rattle.dt_service_laws.specs.Services.{Arrives, Closes, CountsFlow, Deed, Does, FindsNoMemory, Forgets, GetsRoute, GivesKind, GivesReply, MakesCall, OpensAgain, Passes, PullsFrame, Raises, Services, TakesHappening, Ticks, Turn, node_after, node_at, services_after, told_between}
 
 -- what a message says: the number of a call, and what it carries
 pub record Message : Type 0 where
@@ -50,6 +50,8 @@ call_asked f (Arrives now link datagram waited) x = []
 call_asked f (Raises life) x = []
 call_asked f TakesHappening x = []
 call_asked f PullsFrame x = []
+call_asked f (GetsRoute route answer added) x = []
+call_asked f (CountsFlow flow counted) x = []
 call_asked f Closes x = []
 call_asked f (OpensAgain again options most life) x = []
 call_asked f (FindsNoMemory deed after) x = call_asked f deed x
@@ -64,6 +66,8 @@ call_by f (Arrives now link datagram waited) x = []
 call_by f (Raises life) x = []
 call_by f TakesHappening x = []
 call_by f PullsFrame x = []
+call_by f (GetsRoute route answer added) x = []
+call_by f (CountsFlow flow counted) x = []
 call_by f Closes x = []
 call_by f (OpensAgain again options most life) x = []
 call_by f (FindsNoMemory deed after) x = call_asked f deed x
@@ -86,6 +90,8 @@ reply_asked f (Arrives now link datagram waited) x = []
 reply_asked f (Raises life) x = []
 reply_asked f TakesHappening x = []
 reply_asked f PullsFrame x = []
+reply_asked f (GetsRoute route answer added) x = []
+reply_asked f (CountsFlow flow counted) x = []
 reply_asked f Closes x = []
 reply_asked f (OpensAgain again options most life) x = []
 reply_asked f (FindsNoMemory deed after) x = reply_asked f deed x
@@ -100,6 +106,8 @@ reply_by f (Arrives now link datagram waited) x = []
 reply_by f (Raises life) x = []
 reply_by f TakesHappening x = []
 reply_by f PullsFrame x = []
+reply_by f (GetsRoute route answer added) x = []
+reply_by f (CountsFlow flow counted) x = []
 reply_by f Closes x = []
 reply_by f (OpensAgain again options most life) x = []
 reply_by f (FindsNoMemory deed after) x = reply_asked f deed x
@@ -165,6 +173,8 @@ life_by (Ticks now) x = []
 life_by (Arrives now link datagram waited) x = []
 life_by TakesHappening x = []
 life_by PullsFrame x = []
+life_by (GetsRoute route answer added) x = []
+life_by (CountsFlow flow counted) x = []
 life_by Closes x = []
 life_by (FindsNoMemory deed after) x = []
 

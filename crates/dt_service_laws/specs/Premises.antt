@@ -3,6 +3,7 @@ use Rattle.std.specs.Prelude.{ℕ, ◌^◌, ◌<◌, ◌≡◌, ◌≢◌, List,
 use Rattle.dt_units.specs.declared.endpoints.Flow.{Flow}
 use Rattle.dt_units.specs.Flows.{IsFlow}
 use Rattle.dt_endpoint.specs.declared.answers.Received.TheVariants as arrived
+use Rattle.dt_endpoint.specs.Calls.{AddsRoute}
 use Rattle.dt_network.specs.Duties.{KeepsCall, KeepsTime}
 use Rattle.dt_network.specs.Network.{Network, Setup}
 use Rattle.dt_network.specs.Steps.{CallArrive, OpenAgain}
@@ -10,7 +11,7 @@ use Rattle.dt_service_model.specs.declared.ports.PortKind.{PortKind}
 use Rattle.dt_service_model.specs.declared.ports.PortKind.TheVariants.{Caller, Service}
 use Rattle.dt_service_model.specs.Stopping.{ArriveStops, CallStops, Closed, ForgetStops, ReplyStops, TickStops}
 use Rattle.dt_service_model.specs.Turns.{Node}
-use Rattle.dt_service_laws.specs.Services.{Arrives, Closes, Deed, Does, FindsNoMemory, Forgets, GivesKind, GivesReply, MakesCall, OpensAgain, Passes, PullsFrame, Raises, Services, TakesHappening, Ticks, Turn, node_at, services_after}
+use Rattle.dt_service_laws.specs.Services.{Arrives, Closes, CountsFlow, Deed, Does, FindsNoMemory, Forgets, GetsRoute, GivesKind, GivesReply, MakesCall, OpensAgain, Passes, PullsFrame, Raises, Services, TakesHappening, Ticks, Turn, node_at, services_after}
 
 abbrev pub IsLife : ℕ → Type 0
 IsLife life = life < 2 ^ 32
@@ -26,6 +27,8 @@ BreaksBy (GivesKind port kind) x after = ⊥
 BreaksBy (Raises life) x after = ⊥
 BreaksBy TakesHappening x after = ⊥
 BreaksBy PullsFrame x after = ⊥
+BreaksBy (GetsRoute route answer added) x after = ⊥
+BreaksBy (CountsFlow flow counted) x after = ⊥
 BreaksBy Closes x after = ⊥
 BreaksBy (OpensAgain again options most life) x after = ⊥
 BreaksBy (FindsNoMemory deed before) x after = ⊥
@@ -41,6 +44,8 @@ KeepsDeed setup net n (Arrives now link datagram waited) x = KeepsCall setup net
 KeepsDeed setup net n (Raises life) x = IsLife life
 KeepsDeed setup net n TakesHappening x = Unit {0}
 KeepsDeed setup net n PullsFrame x = Unit {0}
+KeepsDeed setup net n (GetsRoute route answer after) x = AddsRoute answer route x.endpoint after
+KeepsDeed setup net n (CountsFlow flow counted) x = Unit {0}
 KeepsDeed setup net n Closes x = Unit {0}
 KeepsDeed setup net n (OpensAgain again options most life) x = KeepsCall setup net n (OpenAgain again options) x.endpoint × IsLife life
 KeepsDeed setup net n (FindsNoMemory deed after) x = KeepsDeed setup net n deed x × BreaksBy deed x after
@@ -68,6 +73,8 @@ KeepsKind kinds n (Arrives now link datagram waited) = Unit {0}
 KeepsKind kinds n (Raises life) = Unit {0}
 KeepsKind kinds n TakesHappening = Unit {0}
 KeepsKind kinds n PullsFrame = Unit {0}
+KeepsKind kinds n (GetsRoute route answer added) = Unit {0}
+KeepsKind kinds n (CountsFlow flow counted) = Unit {0}
 KeepsKind kinds n Closes = Unit {0}
 KeepsKind kinds n (OpensAgain again options most life) = Unit {0}
 KeepsKind kinds n (FindsNoMemory deed after) = Unit {0}

@@ -1,8 +1,10 @@
 -- A network of services: nodes that make calls and reply to requests, each over its endpoint of a network.
-use Rattle.std.specs.Prelude.{ℕ, ◌==◌, drop, List, [], ◌∷◌, cond, length, option_map, Option, Some, None}
+use Rattle.std.specs.Prelude.{ℕ, ◌==◌, drop, List, [], ◌∷◌, cond, length, option_map, Option, Some, None, Bool, true, false}
 use Rattle.dt_units.specs.declared.endpoints.Flow.{Flow}
+use Rattle.dt_world_model.specs.declared.links.Route.{Route}
 use Rattle.dt_world_model.specs.Tables.{look}
-use Rattle.dt_endpoint.specs.Endpoints.{EndpointValue}
+use Rattle.dt_endpoint.specs.declared.answers.Routed.{Routed}
+use Rattle.dt_endpoint.specs.Endpoints.{EndpointValue, with_followed}
 use Rattle.dt_network.specs.Network.{Network, Options, Setup, new_network, opened_with}
 use Rattle.dt_network.specs.Steps.{Calls, Pass, PullFrame, network_after}
 use Rattle.dt_service_model.specs.declared.happenings.Happening.{Happening}
@@ -25,9 +27,16 @@ pub data Deed : Type 0 where
   Raises : (life : ℕ) → Deed
   TakesHappening : Deed
   PullsFrame : Deed
+  -- a route is added, with its answer and the endpoint after it; and a flow is counted from then on, if there is memory for it
+  GetsRoute : (route : Route) → (answer : Routed) → (after : EndpointValue) → Deed
+  CountsFlow : (flow : Flow) → (counted : Bool) → Deed
   Closes : Deed
   OpensAgain : (again : Option ℕ) → (options : Options) → (most : Most) → (life : ℕ) → Deed
   FindsNoMemory : (deed : Deed) → (after : Node) → Deed
+
+abbrev pub counted_if : Bool → Flow → EndpointValue → EndpointValue
+counted_if true flow e = with_followed flow e
+counted_if false flow e = e
 
 -- what the definitions of a node make of it
 abbrev pub node_after : Setup → (node : ℕ) → Deed → Node → Node
@@ -40,6 +49,8 @@ node_after setup n (Arrives now link datagram waited) x = (arrive now link datag
 node_after setup n (Raises life) x = with_book (raised life) x
 node_after setup n TakesHappening x = with_book (λ h. (next h).1) x
 node_after setup n PullsFrame x = record x { endpoint = record (x.endpoint) { frames = drop 1 x.endpoint.frames } }
+node_after setup n (GetsRoute route answer after) x = record { endpoint = after; book = x.book }
+node_after setup n (CountsFlow flow counted) x = record { endpoint = counted_if counted flow x.endpoint; book = x.book }
 node_after setup n Closes x = with_book close x
 node_after setup n (OpensAgain again options most life) x = record { endpoint = opened_with setup n again options; book = new_book most life }
 node_after setup n (FindsNoMemory deed after) x = after

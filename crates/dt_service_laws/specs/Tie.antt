@@ -9,7 +9,7 @@ use Rattle.dt_network.specs.Octets.{AreTaken}
 use Rattle.dt_network.specs.Steps.{AreSteps, Step}
 use Rattle.dt_service_model.specs.Turns.{Node}
 use Rattle.dt_service_laws.specs.Histories.{Message, call_by, in_turn, spelled}
-use Rattle.dt_service_laws.specs.Services.{Arrives, Closes, Deed, Does, FindsNoMemory, Forgets, GivesKind, GivesReply, MakesCall, OpensAgain, Passes, PullsFrame, Raises, Services, TakesHappening, Ticks, Turn, services_after}
+use Rattle.dt_service_laws.specs.Services.{Arrives, Closes, CountsFlow, Deed, Does, FindsNoMemory, Forgets, GetsRoute, GivesKind, GivesReply, MakesCall, OpensAgain, Passes, PullsFrame, Raises, Services, TakesHappening, Ticks, Turn, services_after}
 
 -- what is done at a node and finds memory
 abbrev pub finds_memory : Deed → Bool
@@ -23,6 +23,8 @@ finds_memory (Arrives now link datagram waited) = true
 finds_memory (Raises life) = true
 finds_memory TakesHappening = true
 finds_memory PullsFrame = true
+finds_memory (GetsRoute route answer added) = true
+finds_memory (CountsFlow flow counted) = true
 finds_memory Closes = true
 finds_memory (OpensAgain again options most life) = true
 

@@ -1,8 +1,10 @@
--- Worked networks of services: a call that is answered, one whose client starts again with another link while its service is slow, one whose service finds no memory, and one whose client finds none.
-use Rattle.std.specs.Prelude.{ℕ, zero, suc, ◌==◌, List, [], ◌∷◌, ◌++◌, unwrap_or, option_map, Some, None}
+-- Worked networks of services: a call that is answered, one whose client starts again with another link while its service is slow, one whose service finds no memory, one whose client finds none, and one whose service has no route at first.
+use Rattle.std.specs.Prelude.{ℕ, zero, suc, true, ◌==◌, List, [], ◌∷◌, ◌++◌, unwrap_or, option_map, Some, None}
 use Rattle.dt_world_model.specs.Tables.{look}
 use Rattle.dt_world_model.specs.Worked.{main_flow, standard}
+use Rattle.dt_endpoint.specs.declared.answers.Routed.TheVariants as routed
 use Rattle.dt_endpoint.specs.Calls.{arrive_event}
+use Rattle.dt_endpoint.specs.Endpoints.{with_route}
 use Rattle.dt_network.specs.Network.{Options, Setup, opened_with}
 use Rattle.dt_network.specs.Worked.{by, by_link}
 use Rattle.dt_service_model.specs.declared.ports.PortKind.{PortKind}
@@ -14,7 +16,7 @@ use Rattle.dt_service_model.specs.Stopping.{call_kept, message_of_call}
 use Rattle.dt_service_model.specs.Turns.{Node, happens, reads, sweep, with_book}
 use Rattle.dt_service_model.specs.Worked.{frame_at, roomy}
 use Rattle.dt_service_laws.specs.Histories.{Message}
-use Rattle.dt_service_laws.specs.Services.{Arrives, Does, FindsNoMemory, GivesKind, GivesReply, MakesCall, OpensAgain, Passes, Services, Ticks, Turn, new_services, node_with, services_by}
+use Rattle.dt_service_laws.specs.Services.{Arrives, CountsFlow, Does, FindsNoMemory, GetsRoute, GivesKind, GivesReply, MakesCall, OpensAgain, Passes, Services, Ticks, Turn, new_services, node_with, services_by}
 
 -- node 1 calls from port 10 over its link 1, and node 2 serves at port 20 over its link 7
 abbrev pub client_options : Options
@@ -110,3 +112,24 @@ with_second_call x =
 
 abbrev pub client_without_memory : List Turn
 client_without_memory = called ++ Does 1 (FindsNoMemory (MakesCall 40 main_flow (98 ∷ []) 8000) (with_book close (stopped_at_judging (with_second_call (node_in 1 (services_by two_nodes called two_services)))))) ∷ []
+
+-- A CLIENT THAT NOBODY LISTED calls a service that has no route at first: it gets one once the call has come, and then gives its reply
+abbrev pub lists_none : Setup
+lists_none = record { params = standard; nodes = (1, record { ahead = 0; options = client_options }) ∷ (2, record { ahead = 0; options = by_link 7 40 [] }) ∷ [] }
+
+abbrev pub without_routes : Services
+without_routes = new_services lists_none (λ n. roomy) first_life
+
+abbrev pub unlisted : List Turn
+unlisted = called ++ Does 2 (Arrives 40 7 (frame_of 1 0 (services_by lists_none called without_routes)) 0) ∷ []
+
+abbrev pub learnt : List Turn
+learnt =
+    unlisted
+    ++ Does 2 (GetsRoute (by 1 7) routed.Done (with_route (by 1 7) (node_in 2 (services_by lists_none unlisted without_routes)).endpoint))
+    ∷ Does 2 (CountsFlow main_flow true)
+    ∷ Does 2 (GivesReply 40 (token_with main_flow (number_with 5 0)) (65 ∷ []))
+    ∷ []
+
+abbrev pub answered_unlisted : List Turn
+answered_unlisted = learnt ++ Does 1 (Arrives 40 1 (frame_of 2 0 (services_by lists_none learnt without_routes)) 0) ∷ []

@@ -20,4 +20,5 @@ pub use requests::{
 pub use worked::{
     call_is_answered, call_that_is_handed_out_keeps_the_duties, client_finds_no_memory,
     client_starts_again, client_that_starts_again_keeps_the_duties, service_finds_no_memory,
+    unlisted_client_is_answered,
 };

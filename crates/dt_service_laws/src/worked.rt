@@ -9,7 +9,7 @@ ghost use Rattle.dt_service_model.specs.Names.{number_with};
 ghost use Rattle.dt_service_laws.specs.Fates.{calls_at, told_at};
 ghost use Rattle.dt_service_laws.specs.Histories.{answers_at, calls_on, lives_at, replies_on, requests_on};
 ghost use Rattle.dt_service_laws.specs.Premises.{Differ, IsServed, KeepsKinds, KeepsTurns};
-ghost use Rattle.dt_service_laws.specs.Worked.{answered, client_without_memory, first_life, handed_out, kind_at, out_of_memory, restarted, saying, two_nodes, two_services};
+ghost use Rattle.dt_service_laws.specs.Worked.{answered, answered_unlisted, client_without_memory, first_life, handed_out, kind_at, lists_none, out_of_memory, restarted, saying, two_nodes, two_services, without_routes};
 
 /// A call is made, handed out, replied to and answered.
 pub fn call_is_answered()
@@ -56,4 +56,11 @@ pub fn client_finds_no_memory()
     ensures called { calls_at 1 two_nodes client_without_memory two_services ≡ saying 5 0 (97 ∷ []) ∷ saying 5 1 (98 ∷ []) ∷ [] }
     ensures told { told_at 1 two_nodes client_without_memory two_services ≡ Unsure (number_with 5 0) Closed ∷ Unsure (number_with 5 1) Closed ∷ [] }
     ensures duties { KeepsTurns two_nodes client_without_memory two_services }
+{}
+
+/// A client that nobody listed calls a service that has no route at first, and is answered: the service gets
+/// a route once the call has come. The duties can be met by such a list.
+pub fn unlisted_client_is_answered()
+    ensures answers { answers_at 1 lists_none answered_unlisted without_routes ≡ saying 5 0 (65 ∷ []) ∷ [] }
+    ensures duties { KeepsTurns lists_none answered_unlisted without_routes }
 {}
