@@ -4,7 +4,7 @@
 `tests/watch.py [--runs N] [CASE ..]`; all cases where none is named, each N times (2 where N isn't given). A client
 makes calls to a service over a relay (tests/watch/relay.c), which delays, copies and keeps datagrams back; the service
 notes each request that is handed out. In each run nothing is handed out twice, and the counter that names the cause has
-counted. Then the same runs without the watch, until one breaks, which it must within three.
+counted. Then the same runs without the watch, until one breaks, which it must within eight.
 
   disk     32 KiB pieces on 64 and on 128 flows over a deep queue
   copies   1 % of the datagrams come a second time, 1 to 5 s later
@@ -43,7 +43,7 @@ FLAGS = ("-std=c11", "-D_GNU_SOURCE", "-O2", "-Wall", "-Wextra", "-Werror", f"-I
 WRAPPED = "-Wl,--wrap=clock_gettime,--wrap=sendmmsg,--wrap=sendmsg"
 WITHOUT_WATCH = 32
 # how often a run without the watch may pass before the case counts as one that shows nothing
-TRIES = 3
+TRIES = 8
 PATIENCE = 60
 
 
@@ -201,7 +201,7 @@ LINKS = {
     "other_r": (Link({"delay": 1000, "deaf": 700}, QUICK, SMALL | {"r": 2000}, {"r": 50}),),
     "held": (Link({"delay": 1000, "lose_back": 3000}, QUICK, SMALL | {"held": 20, "seconds": 8}),),
     "again": (Link({"delay": 1000, "copy": 200}, QUICK, SMALL | {"seconds": 8}, after=5, restart=2),),
-    "clock": (Link({"delay": 1000, "lose": 1500}, QUICK, SMALL | {"seconds": 8}, stops=8),),
+    "clock": (Link({"delay": 1000, "lose": 300}, QUICK, SMALL | {"seconds": 8}, stops=8),),
 }
 # which counter has the cause
 COUNTERS = {
