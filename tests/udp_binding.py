@@ -27,6 +27,7 @@ if not all((TOP / "lib" / it).exists() for it in ("libdeltat.so.2", "libdeltat-u
 sys.path.insert(0, str(TOP / "bindings" / "python"))
 
 import deltat  # noqa: E402
+from deltat._c_udp import Flag  # noqa: E402
 from deltat import Cause, Declined, Gone, PortKind, Request, Start, Status, Token, Unsure, driver  # noqa: E402
 
 PARAMS = deltat.Params(mpl=482, r=3000, a=5, rto=90, probe=180, seg=1442, cap=65536, rcap=65536, window=65536)
@@ -51,9 +52,14 @@ def opened(node: int, port: int | None = None, **more: object) -> driver.Udp:
     return driver.Udp(node, PARAMS, 294, HOST, port, **more)
 
 
-def serve(port: int) -> None:
+def serve_without_watch(port: int) -> None:
+    """As `serve`, for clients whose program opened their node: they have no watch."""
+    serve(port, Flag.WITHOUT_WATCH)
+
+
+def serve(port: int, flags: int = 0) -> None:
     """Node 2: port 20 answers with the octets reversed, and port 21 forgets requests of one octet."""
-    with opened(2, port, max_peers=100) as udp:
+    with opened(2, port, max_peers=100, flags=flags) as udp:
         for it in (SERVICE, OTHER):
             udp.open_port(it, PortKind.SERVICE)
         calls = driver.Calls(udp)
@@ -301,7 +307,7 @@ def idle() -> str:
 def unlisted() -> str:
     """A client by `deltat.Udp` that its service doesn't list answers the challenge, and is answered; its state folder
     has what the driver passed in."""
-    with service(serve) as port, tempfile.TemporaryDirectory() as folder:
+    with service(serve_without_watch) as port, tempfile.TemporaryDirectory() as folder:
         number, lives = deltat.fresh_number(), []
         for _ in range(2):
             with deltat.State(folder, number, PARAMS) as state:
