@@ -420,7 +420,7 @@ def direct(seconds: float) -> None:
 
 
 def killed_shop() -> None:
-    with running(*own("--shop", ADDRESSES[0]), every=1.0):
+    with running(*own("--shop", ADDRESSES[0]), every=3.0):
         time.sleep(600)
 
 
