@@ -58,7 +58,7 @@ void network_option(struct network *it, int option, const char *value) {
 
 void network_compute(struct network *it) {
     struct dt_network network = DT_NETWORK((uint64_t)(it->delay_ms * 1000), (uint64_t)(it->round_trip_ms * 1000));
-    network.mtu = (uint32_t)it->mtu;
+    network.mtu = (uint32_t)it->mtu - DT_UDP_TRAILER; /* (behind each datagram) */
     it->params = (struct dt_params){.size = sizeof it->params};
     if (dt_params_for(&network, &it->params, &it->charge) != DT_OK) die("no parameters suit such a network");
     it->charge -= SOCKET_MS; /* (the driver measures the wait in the socket, and takes it off by itself) */
