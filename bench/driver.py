@@ -48,6 +48,7 @@ PEERS = {
     "ENet": Peer("enet", messages=True),
     "messages": Peer("driver", {}, "same", True),
     "calls": Peer("driver", {"CALLS": "1"}, "same", True),
+    "calls, no watch": Peer("driver", {"CALLS": "1", "FLAGS": "32"}, "same", True),
     "calls, no segments": Peer("driver", {"CALLS": "1", "FLAGS": "1"}, "same", True),
     "calls, no segments, no batches": Peer("driver", {"CALLS": "1", "FLAGS": "3"}, "same", True),
     **{
@@ -151,7 +152,8 @@ def asked(folder: pathlib.Path, peer: Peer, what: str, seconds: float) -> tuple[
 
 
 def from_python(folder: pathlib.Path, many: int, seconds: float) -> tuple[float, float]:
-    serving, port = server(folder, PEERS["calls"])
+    # (a node that Python opened has no watch, and so its service has none)
+    serving, port = server(folder, PEERS["calls, no watch"])
     env = {**os.environ, "PYTHONPATH": str(TOP / "bindings" / "python")}
     ran = subprocess.run(
         [sys.executable, "-c", PYTHON, port, str(seconds), str(many)],
