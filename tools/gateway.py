@@ -19,6 +19,7 @@ import sqlite3
 import sys
 import threading
 from contextlib import AsyncExitStack, closing
+from typing import Any
 
 from deltat_tools import live
 from deltat_tools.gateway import settings
@@ -36,6 +37,20 @@ def words() -> argparse.Namespace:
     return it.parse_args()
 
 
+def opened(said: settings.Settings, params: Any, charge: int, state: Any) -> Any:
+    """The gateway's node, with the kinds of its ports. Requests of a flow are handed out one at a time."""
+    deltat = live.library()
+    limits = deltat.ServiceLimits(max_calls=10_000, max_requests=10_000, max_requests_per_flow=1)
+    routes = {peer: LINK for peer in said.peers}
+    node = deltat.Service(said.node, None, params, [deltat.Link(LINK, charge)], routes, state=state, limits=limits)
+    for target in said.targets.values():
+        for port in target.from_ports:
+            node.set_port(port, deltat.PortKind.CALLER)
+    for port in said.backends:
+        node.set_port(port, deltat.PortKind.SERVICE)
+    return node
+
+
 async def serve(said: settings.Settings) -> None:
     """Runs the gateway, until it is told to stop."""
     deltat = live.library()
@@ -49,14 +64,7 @@ async def serve(said: settings.Settings) -> None:
         state = stack.enter_context(deltat.State(said.state, said.node, params))
         made = Journal(said.state / "gateway.db", orders.SCHEMA + served.SCHEMA, said.sync)
         journal = stack.enter_context(closing(made))
-        limits = deltat.ServiceLimits(max_calls=10_000, max_requests=10_000, max_requests_per_flow=1)
-        routes = {peer: LINK for peer in said.peers}
-        node = deltat.Service(said.node, None, params, [deltat.Link(LINK, charge)], routes, state=state, limits=limits)
-        for target in said.targets.values():
-            for port in target.from_ports:
-                node.set_port(port, deltat.PortKind.CALLER)
-        for port in said.backends:
-            node.set_port(port, deltat.PortKind.SERVICE)
+        node = opened(said, params, charge, state)
         udp = await stack.enter_async_context(deltat.AsyncUdp(node, said.bind, said.peers))
         calls = deltat.AsyncCalls(udp)
         for port, backend in said.backends.items():

@@ -18,7 +18,8 @@ class DeltatError(Exception):
 class OutOfMemory(DeltatError):
     """The library ran out of memory, and the call was done in part: the octets of a send may have been taken. Then the
     node is stopped: close it, and open it again with `Start.AGAIN`. Only `set_guard`, `add_route` and `count_flow`, and
-    `set_port` of a service, changed nothing when they raise this, and the node is usable."""
+    `set_port` of a service, changed nothing when they raise this, and the node is usable; so did a service's `call`, if
+    only the memory for its `user` was missing."""
 
 
 class Stopped(DeltatError):

@@ -61,7 +61,8 @@ class Udp:
 
     Unless the program called `node.set_guard`, the node receives at the ports that have a reader (at a service: those
     that have a kind), and on 1,024 flows at once, or 16 for each peer or each route if that is more. So strangers that
-    send from a peer's address don't make it grow."""
+    send from a peer's address don't make it grow. Nothing measures how old datagrams are (docs/watch.md): the links'
+    charges are the program's to choose."""
 
     def __init__(
         self,
