@@ -9,7 +9,6 @@ It refuses, each with page and line:
   without a row;
 - a library on a crate's line in crates.txt of which the crate names nothing;
 - a clause of `run` that docs/guarantees.md doesn't name;
-- a table of docs/clauses.md that differs from the public functions and their clauses;
 - a word of a line that is written or read and that docs/formats.md doesn't name;
 - a count of the files that have a row for each written or read line, where the sources have other files;
 - a list of docs/headline.md that differs from the definitions that its sentences rest on;
@@ -27,8 +26,9 @@ It refuses, each with page and line:
 - an answer that says that it refuses a bug which isn't planted.
 
 Usage: docs/check.py            compares
-       docs/check.py write      writes the "stands on" column, the files that a new line costs, docs/clauses.md and the
-                                lists of docs/headline.md anew; release/interface.py write does the copies of the header
+       docs/check.py write      writes the "stands on" column, the files that a new line costs and the lists of
+                                docs/headline.md anew; release/interface.py write does the copies of the header
+       docs/check.py clauses    prints a page with each public function of the crates and its clauses by name
 """
 
 import os
@@ -435,13 +435,11 @@ def check_formats() -> Iterator[Complaint]:
 # --- the page of clauses
 
 
-CLAUSES = TOP / "docs" / "clauses.md"
 HEAD = """# Clause by clause
 
 What other crates can call, crate by crate, and the clauses of each contract by their names. What a clause says word
 for word stands in the contract, in the file of its module below `crates/CRATE/src/`, above the body. A `-` is a clause without a name. A
-condition is what the caller owes, and is proved at each call. This page is made from the sources by
-`docs/check.py write`, and the gate's script refuses it where it differs.
+condition is what the caller owes, and is proved at each call. `docs/check.py clauses` makes this page from the sources.
 """
 
 
@@ -460,11 +458,6 @@ def page_of_clauses() -> str:
             said = it.says.replace("|", "\\|")
             parts.append(f"| `{it.name}` | {it.module} | {cell(it.requires)} | {cell(it.ensures)} | {said} |\n")
     return "".join(parts)
-
-
-def check_page_of_clauses() -> Iterator[Complaint]:
-    if not CLAUSES.is_file() or text_of(CLAUSES) != page_of_clauses():
-        yield Complaint(CLAUSES, 1, "the page differs from the sources: docs/check.py write makes it anew")
 
 
 # --- what a new variant costs
@@ -735,7 +728,6 @@ def complaints() -> Iterator[Complaint]:
         yield from check_names(page)
         yield from check_clauses(page)
     yield from check_run()
-    yield from check_page_of_clauses()
     yield from check_crates()
     yield from check_libraries()
     yield from check_formats()
@@ -760,8 +752,10 @@ def main(words: list[str]) -> int:
         case ["write"]:
             write_crates()
             write_costs()
-            CLAUSES.write_text(page_of_clauses())
             headline.main(words)
+            return 0
+        case ["clauses"]:
+            print(page_of_clauses(), end="")
             return 0
         case ["-h" | "--help"]:
             print(__doc__)

@@ -152,6 +152,7 @@ gzip -n9 <"$room/formats.5" >"$root/usr/share/man/man5/deltat-formats.5.gz"
 cp -R "$top/README.md" "$top/VERSION" "$top/CHANGES" "$top/docs" "$top/examples" "$doc"
 find "$doc/docs" "$doc/examples" -name __pycache__ -prune -exec rm -rf {} +
 find "$doc/docs" -name '*.py' -delete
+python3 "$top/docs/check.py" clauses >"$doc/docs/clauses.md"
 # so that the pages' commands can be tried in a copy of this folder
 ln -s ../../../bin/deltat "$doc/deltat"
 ln -s ../../../lib/deltat "$doc/tools"

@@ -24,7 +24,6 @@ SPOILT = [
     ("a clause that isn't there", "docs/guarantees.md", "| `all_along`, `whole` |", "| `all_long`, `whole` |"),
     ("a clause of another call", "docs/guarantees.md", "| `all_along`, `whole` |", "| `safe`, `cut_off` |"),
     ("a clause of run that isn't named", "docs/guarantees.md", "`stood_still`", "`stood`"),
-    ("a table of clauses that differs", "docs/clauses.md", "| `Relay::enter` |", "| `Relay::entered` |"),
     ("a crate on another stand", "docs/architecture.md", " dt_host, dt_relay |", " dt_host |"),
     ("a library that isn't used", "crates.txt", "dt_units:", "dt_units: hex"),
     ("a crate without a row", "docs/architecture.md", "| dt_shelf |", "| shelf |"),
