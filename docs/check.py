@@ -19,6 +19,7 @@ It refuses, each with page and line:
   twice; and a name of that table that nothing has;
 - a sentence of the header or of docs/library.md that speaks of a law and isn't in the table of docs/laws.py; one of that
   table that isn't in its file; and one whose law is gone, or has no such clause;
+- a crate that the map of docs/rooms.py lacks or has twice, and a picture that differs from crates.txt;
 - a script that can't be run as the pages say, since it isn't executable;
 - a must-fail edit whose text doesn't stand once in its file: the `rt ci` of some kits counts it for nothing, and passes;
 - two edits of a crate, or a planted bug without a name;
@@ -41,6 +42,7 @@ from typing import Iterator, NamedTuple
 import files as headings
 import headline
 import laws
+import rooms
 
 sys.path.insert(0, str(Path(__file__).resolve().parent.parent / "release"))
 import interface  # noqa: E402
@@ -722,6 +724,11 @@ def check_laws() -> Iterator[Complaint]:
                 yield Complaint(claim.page, 1, f"no such law: {law}, by which it says: {claim.says[:80]}")
 
 
+def check_map() -> Iterator[Complaint]:
+    for it in rooms.wrong():
+        yield Complaint(ARCHITECTURE, 1, it)
+
+
 def complaints() -> Iterator[Complaint]:
     for page in PAGES:
         yield from check_links(page)
@@ -739,6 +746,7 @@ def complaints() -> Iterator[Complaint]:
     yield from check_scripts()
     yield from check_interface()
     yield from check_laws()
+    yield from check_map()
 
 
 def main(words: list[str]) -> int:
