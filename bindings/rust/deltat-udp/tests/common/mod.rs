@@ -7,7 +7,7 @@ use deltat_udp::{Event, Flow, Kind, Node, Options, Params, PortKind, Service, St
 
 pub const PARAMS: Params = Params {
     mpl: 482,
-    r: 450,
+    r: 3000, // (a message is given up later: others may load the machine)
     a: 5,
     rto: 90,
     probe: 180,
