@@ -10,7 +10,7 @@ names another folder); tokio is that of Debian's package librust-tokio-dev, in p
 - c_service: both clients ask the service of C.
 - loss: 5 % of all datagrams are lost each way: of 2,000 calls none is served twice or has another call's answer, and 99 %
   are answered.
-- killed: of 40,000 calls to a service that is killed five times while it serves, each ends, and none is served twice.
+- killed: of 60,000 calls to a service that is killed five times while it serves, each ends, and none is served twice.
 - memory: each allocation of 16 KiB or more fails once in a client: it says that there is no memory or that the service
   stopped, or is answered.
 - system: each system call that opens something fails once: the error is that of the system.
@@ -221,23 +221,24 @@ def loss(built: Built) -> str:
 
 
 def killed(built: Built) -> str:
-    many, port, count, kills = built.example("deltat-udp", "many"), free_port(), 40_000, 5
-    journal, lives = built.folder / "killed.journal", []
+    many, port, count, kills = built.example("deltat-udp", "many"), free_port(), 60_000, 5
+    journal, ends, lives = built.folder / "killed.journal", built.folder / "killed.ends", []
     serve = [many, "serve", str(port), f"{built.folder}/killed", str(journal)]
-    asking: subprocess.Popen[str] | None = None
+    asking: subprocess.Popen[bytes] | None = None
     for number in range(kills + 1):
         before = journal.read_text().count("\n") if journal.exists() else 0
         with running(serve, port) as service:
             silent = int(re.findall(r"\d+", service.stdout.readline())[0])
             if asking is None:
-                asking = subprocess.Popen([many, "ask", HOST, str(port), str(count)], stdout=subprocess.PIPE, text=True)
-            time.sleep(silent / 1000 + 1)
+                with ends.open("w") as out:
+                    asking = subprocess.Popen([many, "ask", HOST, str(port), str(count)], stdout=out, stderr=subprocess.DEVNULL)
+            time.sleep(silent / 1000 + 0.2)
             if number == kills:
-                ends, _ = asking.communicate(timeout=PATIENCE)
+                asking.wait(PATIENCE)
         lives.append(journal.read_text().count("\n") - before)
     assert asking
     wants(asking.returncode == 0, f"many ask ended with {asking.returncode}")
-    counts = judged(ends, journal, count)
+    counts = judged(ends.read_text(), journal, count)
     wants(sum(it > 0 for it in lives) >= 2, f"requests served by each life: {lives}")
     return f"lives that served {lives}: {counts['answered']} of {count} calls answered, {counts['unsure']} unsure"
 
