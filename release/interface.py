@@ -7,7 +7,7 @@
 
 The header is the source. Made from it: the Rust declarations (RUST), the ctypes tables (PYTHON), the places of fields
 that tests/library/layout.c has a compiler check, the names in lib/names.c, and the enums of include/deltat.hpp; and from
-include/deltat_udp.h the ctypes tables of the driver (PYTHON_UDP).
+include/deltat_udp.h the Rust declarations (RUST_UDP) and the ctypes tables of the driver (PYTHON_UDP).
 release/manpage.py takes the calls of libdeltat(3) from here, and tests/library.py the loops. Compared with it:
 DELTAT_VERSION with VERSION, and the exports and structs of crates/dt_c, name by name and type by type. Ends with 1 if
 something differs, and with 2 if the words are wrong or the header isn't understood.
@@ -25,6 +25,7 @@ TOP = Path(__file__).resolve().parent.parent
 HEADER = TOP / "include" / "deltat.h"
 UDP_HEADER = TOP / "include" / "deltat_udp.h"
 RUST = TOP / "bindings" / "rust" / "deltat-sys" / "src" / "sys.rs"
+RUST_UDP = TOP / "bindings" / "rust" / "deltat-udp-sys" / "src" / "sys.rs"
 PYTHON = TOP / "bindings" / "python" / "deltat" / "_c.py"
 PYTHON_UDP = TOP / "bindings" / "python" / "deltat" / "_c_udp.py"
 LAYOUT = TOP / "tests" / "library" / "layout.c"
@@ -358,13 +359,23 @@ def wrapped(text: str, mark: str, width: int = 116) -> Iterator[str]:
 
 RUST_TYPES = {
     "bool": "bool", "uint8_t": "u8", "uint16_t": "u16", "uint32_t": "u32", "uint64_t": "u64", "size_t": "usize",
-    "double": "f64", "char": "c_char", "void": "c_void",
+    "double": "f64", "char": "c_char", "void": "c_void", "int": "c_int", "int32_t": "i32",
 }
 
 
 def rust_type(it: Type) -> str:
     name = RUST_TYPES.get(it.name, it.name)
+    if it.arguments is not None:
+        result = "" if it.name == "void" else f" -> {name}"
+        return f"Option<unsafe extern \"C\" fn({', '.join(map(rust_type, it.arguments))}){result}>"
+    if it.count:
+        return f"[{name}; {it.count}]"
     return f"*{'const' if it.is_const else 'mut'} {name}" if it.is_pointer else name
+
+
+def rust_words(text: str) -> str:
+    """Words of a comment, in which brackets name no item."""
+    return re.sub(r"([\[\]])", r"\\\1", text)
 
 
 def rust_doc(doc: Doc, indent: str = "") -> Iterator[str]:
@@ -381,24 +392,28 @@ def rust_doc(doc: Doc, indent: str = "") -> Iterator[str]:
 
 
 def rust_zero(it: Field) -> str:
+    if it.type.arguments is not None:
+        return "None"
+    if it.type.count:
+        return f"[{rust_zero(it._replace(type=it.type._replace(count=0)))}; {it.type.count}]"
     if it.type.is_pointer:
         return "core::ptr::null()" if it.type.is_const else "core::ptr::null_mut()"
     name = ALIASES.get(it.type.name, it.type.name)
-    if name not in SIZES:
+    if name not in SIZES and name not in RUST_TYPES:
         return f"{name}::new()"
     return {"bool": "false", "double": "0.0"}.get(name, "0")
 
 
 def rust_struct(it: Struct) -> Iterator[str]:
-    yield from wrapped(it.says, "///")
+    yield from wrapped(rust_words(it.says), "///")
     # (a comparison of pointers or floating numbers would surprise)
     names = [field.type.name for field in it.fields]
-    equal = not any(field.type.is_pointer for field in it.fields) and "double" not in names
+    equal = not any(one.type.is_pointer or one.type.arguments is not None for one in it.fields) and "double" not in names
     yield "#[repr(C)]"
     yield f"#[derive(Clone, Copy, Debug{', PartialEq, Eq, Hash' if equal else ''})]"
     yield f"pub struct {it.name} {{"
     for field in it.fields:
-        yield from wrapped(field.says, "    ///")
+        yield from wrapped(rust_words(field.says), "    ///")
         yield f"    pub {field.name}: {rust_type(field.type)},"
     yield from ["}", "", f"impl {it.name} {{"]
     yield "    /// All fields 0, and `size` as it has to be." if it.is_sized else "    /// All fields 0."
@@ -439,25 +454,43 @@ def rust_function(it: Function) -> Iterator[str]:
         yield from [f"    pub fn {it.name}(", *(f"        {one}," for one in parameters), f"    ){result};"]
 
 
+def rust_body(it: Header) -> Iterator[str]:
+    """What a header declares, from its handles on."""
+    for name in it.opaque:
+        yield from ["/// A handle. Its octets are the library's.", "#[repr(C)]", f"pub struct {name} {{"]
+        yield from ["    _data: [u8; 0],", "    _marker: PhantomData<(*mut u8, PhantomPinned)>,", "}", ""]
+    for struct in it.structs:
+        yield from rust_struct(struct)
+    yield 'extern "C" {'
+    for number, function in enumerate(it.functions):
+        yield from [""] if number else []
+        yield from rust_function(function)
+    yield "}"
+
+
 def rust() -> str:
     """The declarations for Rust, under the names of C."""
-    it = header()
     lines = [f"// {MADE_BY}.",
              "//! What libdeltat exports, as include/deltat.h has it: names, duties and statuses are those of C.",
              "#![allow(non_camel_case_types)]", "",
              "use core::marker::{PhantomData, PhantomPinned};",
              "use std::os::raw::c_char; // in core since Rust 1.64", ""]
-    lines += rust_constants(it)
+    lines += rust_constants(header())
     lines += ["/// A status: one of the constants of `enum dt_status_code`.", "pub type dt_status = u8;", ""]
-    for name in it.opaque:
-        lines += ["/// A handle. Its octets are the library's.", "#[repr(C)]", f"pub struct {name} {{"]
-        lines += ["    _data: [u8; 0],", "    _marker: PhantomData<(*mut u8, PhantomPinned)>,", "}", ""]
-    for struct in it.structs:
-        lines += rust_struct(struct)
-    lines.append('extern "C" {')
-    for number, function in enumerate(it.functions):
-        lines += ([""] if number else []) + list(rust_function(function))
-    return "\n".join([*lines, "}"]) + "\n"
+    return "\n".join([*lines, *rust_body(header())]) + "\n"
+
+
+def rust_udp() -> str:
+    """The same of the driver. Types of deltat.h are those of the crate deltat-sys."""
+    lines = [f"// {MADE_BY.replace('deltat.h', 'deltat_udp.h')}.",
+             "//! What libdeltat-udp exports, as include/deltat_udp.h has it: names, duties and statuses are those of C.",
+             "#![allow(non_camel_case_types)]", "",
+             "use core::ffi::c_void;",
+             "use core::marker::{PhantomData, PhantomPinned};",
+             "use std::os::raw::{c_char, c_int}; // in core since Rust 1.64", "",
+             "use deltat_sys::*;", ""]
+    lines += rust_constants(udp_header())
+    return "\n".join([*lines, *rust_body(udp_header())]) + "\n"
 
 
 # --- Python
@@ -665,7 +698,9 @@ def cplus() -> str:
     return before + first + "\n".join(lines) + behind[behind.index(last):]
 
 
-MADE: dict[Path, Callable[[], str]] = {RUST: rust, PYTHON: python, PYTHON_UDP: python_udp, LAYOUT: layout_c, NAMES: names_c, CPLUS: cplus}
+MADE: dict[Path, Callable[[], str]] = {
+    RUST: rust, RUST_UDP: rust_udp, PYTHON: python, PYTHON_UDP: python_udp, LAYOUT: layout_c, NAMES: names_c, CPLUS: cplus,
+}
 
 
 # --- the exports

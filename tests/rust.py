@@ -2,9 +2,9 @@
 """The crates of bindings/rust over libdeltat: `tests/rust.py [TEST ..]`. Ends with 1 where one of these fails, and with
 77 where there is no cargo or no lib/libdeltat.a (DELTAT_LIB_DIR names another folder).
 
-- declared: what deltat-sys declares is what include/deltat.h has: a C compiler compares the prototypes, and two
-  programs the sizes of structs, the places of their fields and the numbers.
-- crates: without a network and without warnings cargo builds all of it, runs the tests of both crates and those in
+- declared: what deltat-sys and deltat-udp-sys declare is what include/deltat.h and deltat_udp.h have: a C compiler
+  compares the prototypes, and two programs the sizes of structs, the places of their fields and the numbers.
+- crates: without a network and without warnings cargo builds all of it, runs the tests of the crates and those in
   their documents, and makes the documents; clippy has nothing to say, where there is one.
 - found: the library is found by a deltat.pc, also the shared one; a folder without it is named in the error.
 - interfaces: a program isn't linked with a library of interface 1, and one of interface 3 is refused at the opening.
@@ -36,9 +36,10 @@ from lib import HOST, TOP, Between, bound, is_up, skip
 
 CRATES = TOP / "bindings" / "rust"
 SYS = CRATES / "deltat-sys" / "src" / "sys.rs"
+SYS_UDP = CRATES / "deltat-udp-sys" / "src" / "sys.rs"
 LIBRARY = pathlib.Path(os.environ.get("DELTAT_LIB_DIR", TOP / "lib")).resolve()
 C_TYPES = {"u8": "uint8_t", "u16": "uint16_t", "u32": "uint32_t", "u64": "uint64_t", "usize": "size_t", "bool": "bool",
-           "f64": "double", "c_char": "char", "c_void": "void", "dt_status": "dt_status", "i32": "int32_t"}
+           "f64": "double", "c_char": "char", "c_void": "void", "dt_status": "dt_status", "i32": "int32_t", "c_int": "int"}
 LONGEST_PROGRAM = 25
 # how often a service is stopped while it is asked
 STOPS = 8
@@ -76,7 +77,7 @@ def c_type(rust: str) -> str:
 
 
 def prototypes(text: str) -> list[str]:
-    """The functions that sys.rs declares, as C has them."""
+    """The functions that a sys.rs declares, as C has them."""
     found = []
     for name, words, result in re.findall(r"pub fn (\w+)\((.*?)\)(?: -> ([^;]+))?;", text, re.DOTALL):
         given = [c_type(it.split(":")[1].strip()) for it in words.split(",") if ":" in it]
@@ -85,23 +86,26 @@ def prototypes(text: str) -> list[str]:
 
 
 def structs(text: str) -> dict[str, list[str]]:
-    """The structs that sys.rs has and their fields, without those of which only pointers are known."""
+    """The structs that a sys.rs has and their fields, without those of which only pointers are known."""
     found = re.findall(r"pub struct (\w+) \{\n(.*?)\n\}", text, re.DOTALL)
     return {name: re.findall(r"^\s+pub (\w+):", body, re.MULTILINE) for name, body in found if "_data" not in body}
 
 
-def in_c(text: str) -> str:
-    lines = ['#include "deltat.h"', "#include <stdio.h>", *prototypes(text), "int main(void) {"]
+NUMBERS = re.compile(r"pub const (\w+): (?:u\d+|usize|dt_status) =")
+
+
+def in_c(text: str, header: str) -> str:
+    lines = [f'#include "{header}"', "#include <stdio.h>", *prototypes(text), "int main(void) {"]
     for name, fields in structs(text).items():
         lines.append(f'printf("{name} %zu\\n", sizeof(struct {name}));')
         lines += [f'printf("{name}.{it} %zu\\n", offsetof(struct {name}, {it}));' for it in fields]
-    for name in re.findall(r"pub const (\w+): (?:u\d+|usize|dt_status) =", text):
+    for name in NUMBERS.findall(text):
         lines.append(f'printf("{name} %llu\\n", (unsigned long long)({name}));')
     return "\n".join([*lines, "return 0; }"])
 
 
-def in_rust(text: str) -> str:
-    lines = ["#![allow(dead_code)]", f'#[path = "{SYS}"]', "mod sys;", "use std::mem::{size_of, MaybeUninit};",
+def in_rust(text: str, sys_rs: pathlib.Path) -> str:
+    lines = ["#![allow(dead_code)]", f'#[path = "{sys_rs}"]', "mod sys;", "use std::mem::{size_of, MaybeUninit};",
              "use std::ptr::addr_of;", "fn main() {"]
     for name, fields in structs(text).items():
         lines.append(f'println!("{name} {{}}", size_of::<sys::{name}>());')
@@ -109,33 +113,45 @@ def in_rust(text: str) -> str:
         for field in fields:
             place = f"unsafe {{ addr_of!((*it).{field}) as usize - it as usize }}"
             lines.append(f'println!("{name}.{field} {{}}", {place});')
-    for name in re.findall(r"pub const (\w+): (?:u\d+|usize|dt_status) =", text):
+    for name in NUMBERS.findall(text):
         lines.append(f'println!("{name} {{}}", sys::{name});')
     return "\n".join([*lines, "}"])
 
 
-def declared(folder: str) -> bool:
-    text = SYS.read_text()
-    c, rust = pathlib.Path(folder, "places.c"), pathlib.Path(folder, "places.rs")
-    c.write_text(in_c(text))
-    rust.write_text(in_rust(text))
-    warnings = ["-Wall", "-Wextra", "-Werror"]
-    compilers = {c: ["cc", "-std=c11", *warnings, "-I", str(TOP / "include")], rust: ["rustc", "--edition", "2021"]}
+def is_declared(folder: str, sys_rs: pathlib.Path, header: str, words: list[str]) -> bool:
+    """Whether a sys.rs declares what the header has. `words`: what rustc is given beside it."""
+    text = sys_rs.read_text()
+    c, rust = pathlib.Path(folder, f"{header}.c"), pathlib.Path(folder, f"{header}.rs".replace(".h", ""))
+    c.write_text(in_c(text, header))
+    rust.write_text(in_rust(text, sys_rs))
+    compilers = {
+        c: ["cc", "-std=c11", "-Wall", "-Wextra", "-Werror", "-I", str(TOP / "include")],
+        rust: ["rustc", "--edition", "2021", *words],
+    }
     places: dict[pathlib.Path, set[str]] = {}
-    for source, words in compilers.items():
+    for source, command in compilers.items():
         program = f"{source}.program"
-        if not well(words[0], ran([*words, str(source), "-o", program], 60)):
+        if not well(command[0], ran([*command, str(source), "-o", program], 60)):
             return False
         places[source] = set(ran([program], 10).stdout.splitlines())
     different = sorted(places[c] ^ places[rust])
     if different:
         print(f"declared: C and Rust differ: {different[:6]}")
-    header = re.sub(r"/\*.*?\*/", "", (TOP / "include" / "deltat.h").read_text(), flags=re.DOTALL)
+    plain = re.sub(r"/\*.*?\*/", "", (TOP / "include" / header).read_text(), flags=re.DOTALL)
     names = {re.split(r"[ *]", it.split("(")[0])[-1] for it in prototypes(text)}
-    missing = names ^ set(re.findall(r"\b(dt_\w+)\(", header))
+    missing = names ^ set(re.findall(r"\b(dt_\w+)\(", plain))
     if missing:
         print(f"declared: only one of both has {sorted(missing)}")
     return not different and not missing and len(places[c]) > 100
+
+
+def declared(folder: str) -> bool:
+    library = ["rustc", "--edition", "2021", "--crate-type", "rlib", "--crate-name", "deltat_sys"]
+    rlib = f"{folder}/libdeltat_sys.rlib"
+    if not well("rustc", ran([*library, str(SYS.parent / "lib.rs"), "-o", rlib], 60)):
+        return False
+    of_udp = is_declared(folder, SYS_UDP, "deltat_udp.h", ["--extern", f"deltat_sys={rlib}"])
+    return is_declared(folder, SYS, "deltat.h", []) and of_udp
 
 
 # --- building
@@ -163,7 +179,7 @@ fn main() {
 
 
 def user_of(folder: str) -> pathlib.Path:
-    """A crate that stands where a copy of the two crates is, as one that is installed, and not in a clone."""
+    """A crate that stands where a copy of the crates is, as one that is installed, and not in a clone."""
     top = pathlib.Path(folder, "installed")
     shutil.copytree(CRATES, top / "rust" / "crates", ignore=shutil.ignore_patterns("target"), dirs_exist_ok=True)
     (top / "user" / "src").mkdir(parents=True, exist_ok=True)

@@ -80,6 +80,7 @@
 #![deny(unsafe_op_in_unsafe_fn)]
 
 mod clock;
+mod convert;
 mod counts;
 mod endpoint;
 mod error;

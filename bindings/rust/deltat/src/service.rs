@@ -56,7 +56,7 @@ pub struct Token {
 }
 
 impl Token {
-    fn to_c(self) -> sys::dt_token {
+    pub(crate) fn to_c(self) -> sys::dt_token {
         sys::dt_token { call: self.call, flow: self.flow.to_c() }
     }
 }
@@ -76,7 +76,7 @@ pub enum Cause {
 }
 
 impl Cause {
-    fn of_c(cause: u8) -> Cause {
+    pub(crate) fn of_c(cause: u8) -> Cause {
         match cause {
             sys::DT_CAUSE_GIVEN_UP => Cause::GivenUp,
             sys::DT_CAUSE_TIMEOUT => Cause::Timeout,
@@ -132,9 +132,7 @@ impl Event {
                 token: Token { call: it.call, flow: Flow::of_c(it.flow) },
                 len: it.len,
             },
-            sys::DT_EVENT_ANSWERED => {
-                Event::Answered { call: it.call, user: it.user, len: it.len }
-            }
+            sys::DT_EVENT_ANSWERED => Event::Answered { call: it.call, user: it.user, len: it.len },
             sys::DT_EVENT_UNSURE => {
                 Event::Unsure { call: it.call, user: it.user, cause: Cause::of_c(it.cause) }
             }

@@ -1,0 +1,279 @@
+//! Calls and requests, for many tasks.
+use std::collections::{HashMap, VecDeque};
+use std::os::unix::io::{AsRawFd, RawFd};
+use std::sync::{Arc, Mutex, MutexGuard, PoisonError};
+use std::time::{Duration, Instant};
+use std::{fmt, mem};
+
+use deltat_udp::{Calls, Error, Event, Flow, Handle, Service, Token};
+use tokio::io::unix::AsyncFd;
+use tokio::io::Interest;
+use tokio::sync::{oneshot, Notify};
+use tokio::task::JoinHandle;
+
+use crate::refused;
+
+/// Events other than requests that wait: of more the oldest is dropped.
+const MOST_NOTICES: usize = 1000;
+/// How often a drain looks whether all is settled.
+const DRAINING: Duration = Duration::from_millis(5);
+
+/// Calls and requests over a service: many tasks may call and reply at once. Clones share the service, which a
+/// task of the runtime looks after until the last of them is dropped.
+#[derive(Clone)]
+pub struct AsyncCalls {
+    shared: Arc<Shared>,
+    task: Arc<Task>,
+}
+
+/// Ends the task with the last clone.
+struct Task(JoinHandle<()>);
+
+struct Shared {
+    state: Mutex<State>,
+    /// Something was sent, which leaves with all that other tasks send before the task comes round.
+    sent: Notify,
+    /// The task took a turn: there may be events, room, or a failure.
+    turned: Notify,
+}
+
+struct State {
+    service: Service,
+    ends: HashMap<u64, oneshot::Sender<Result<Vec<u8>, Error>>>,
+    /// Requests, of which the service has [`Options::max_requests`](deltat_udp::Options::max_requests) at most.
+    requests: VecDeque<Event<Vec<u8>>>,
+    notices: VecDeque<Event<Vec<u8>>>,
+    failure: Option<Error>,
+}
+
+/// The descriptor of a service, which the state has.
+struct Descriptor(RawFd);
+
+impl AsRawFd for Descriptor {
+    fn as_raw_fd(&self) -> RawFd {
+        self.0
+    }
+}
+
+impl AsyncCalls {
+    /// Has a task of the present runtime, which needs its drivers of I/O and time, look after a service.
+    ///
+    /// # Errors
+    ///
+    /// `System`: the runtime doesn't watch it.
+    ///
+    /// # Panics
+    ///
+    /// Outside of a runtime of tokio.
+    pub fn new(service: Service) -> Result<AsyncCalls, Error> {
+        let descriptor = Descriptor(service.as_raw_fd());
+        let watched = AsyncFd::with_interest(descriptor, Interest::READABLE).map_err(refused)?;
+        let state = State {
+            service,
+            ends: HashMap::new(),
+            requests: VecDeque::new(),
+            notices: VecDeque::new(),
+            failure: None,
+        };
+        let (sent, turned) = (Notify::new(), Notify::new());
+        let shared = Arc::new(Shared { state: Mutex::new(state), sent, turned });
+        let task = Task(tokio::spawn(look_after(shared.clone(), watched)));
+        Ok(AsyncCalls { shared, task: Arc::new(task) })
+    }
+
+    /// Makes a call from a caller's port, and returns its answer. If the future is dropped the call continues,
+    /// and its end is dropped.
+    ///
+    /// # Errors
+    ///
+    /// `Unsure`: the call was served once, not at all, or will be. Others: it wasn't made, as of
+    /// [`Handle::call`]; or the driver failed, and it is unsure.
+    pub async fn call(
+        &self,
+        flow: Flow,
+        payload: &[u8],
+        timeout: Duration,
+    ) -> Result<Vec<u8>, Error> {
+        let end = {
+            let mut state = self.shared.usable()?;
+            let call = state.service.call(flow, payload, timeout)?;
+            let (ended, end) = oneshot::channel();
+            state.ends.insert(call, ended);
+            end
+        };
+        self.shared.sent.notify_one();
+        end.await.unwrap_or(Err(Error::Stopped))
+    }
+
+    /// The next request, or what else happened to the service: replies that are uncertain, alarms, datagrams
+    /// that were too big. Each goes to one of the tasks that wait. A program that serves calls it again and
+    /// again; a client needn't.
+    ///
+    /// # Errors
+    ///
+    /// As of [`Udp::next_event`](deltat_udp::Udp::next_event).
+    pub async fn next_event(&self) -> Result<Event<Vec<u8>>, Error> {
+        loop {
+            let turned = self.shared.turned.notified();
+            {
+                let mut state = self.shared.state();
+                if let Some(event) =
+                    state.notices.pop_front().or_else(|| state.requests.pop_front())
+                {
+                    return Ok(event);
+                }
+                state.is_usable()?;
+            }
+            turned.await;
+        }
+    }
+
+    /// Replies to a request, as soon as there is room.
+    ///
+    /// # Errors
+    ///
+    /// As of [`Handle::reply`], without `Full`.
+    pub async fn reply(&self, token: Token, payload: &[u8]) -> Result<(), Error> {
+        loop {
+            let turned = self.shared.turned.notified();
+            let replied = self.shared.usable()?.service.reply(token, payload);
+            self.shared.sent.notify_one();
+            match replied {
+                Err(Error::Full { .. }) => turned.await,
+                other => return other,
+            }
+        }
+    }
+
+    /// Ends a request without a reply.
+    ///
+    /// # Errors
+    ///
+    /// As of [`Handle::forget`].
+    pub fn forget(&self, token: Token) -> Result<(), Error> {
+        self.shared.usable()?.service.forget(token)
+    }
+
+    /// Waits until all that was sent is acknowledged or uncertain, and what arrived is acknowledged, for at most
+    /// `wait`. Whether nothing is outstanding. Await it before the last clone is dropped if what was sent
+    /// should still arrive.
+    ///
+    /// # Errors
+    ///
+    /// As of [`Handle::drain`].
+    pub async fn drain(&self, wait: Duration) -> Result<bool, Error> {
+        let begun = Instant::now();
+        loop {
+            if self.shared.usable()?.service.drain(Some(Duration::ZERO))? {
+                return Ok(true);
+            }
+            if begun.elapsed() >= wait {
+                return Ok(false);
+            }
+            tokio::time::sleep(DRAINING).await;
+        }
+    }
+
+    /// Passes the service to a function, for the calls that aren't here: its counters, its port, its peers. The
+    /// function must not block.
+    pub fn with<T>(&self, function: impl FnOnce(&Handle<Calls>) -> T) -> T {
+        function(&self.shared.state().service)
+    }
+}
+
+/// Takes what happens, and sends what tasks sent, until the service fails.
+async fn look_after(shared: Arc<Shared>, watched: AsyncFd<Descriptor>) {
+    while shared.turn() {
+        tokio::select! {
+            // (what arrives from here on makes it ready again)
+            ready = watched.readable() => match ready {
+                Ok(mut guard) => guard.clear_ready(),
+                Err(why) => return shared.fail(refused(why)),
+            },
+            () = shared.sent.notified() => (),
+        }
+    }
+}
+
+impl Shared {
+    fn state(&self) -> MutexGuard<'_, State> {
+        // (nothing of the state is broken by a function of `with` that panics)
+        self.state.lock().unwrap_or_else(PoisonError::into_inner)
+    }
+
+    /// The state, unless the service failed.
+    fn usable(&self) -> Result<MutexGuard<'_, State>, Error> {
+        let state = self.state();
+        state.is_usable()?;
+        Ok(state)
+    }
+
+    /// Takes all events that there are; what was sent leaves. Whether the service can continue.
+    fn turn(&self) -> bool {
+        let taken = self.state().take_all();
+        match taken {
+            Ok(()) => self.turned.notify_waiters(),
+            Err(why) => {
+                self.fail(why);
+                return false;
+            }
+        }
+        true
+    }
+
+    /// Ends all that waits with an error.
+    fn fail(&self, why: Error) {
+        let mut state = self.state();
+        for (_, ended) in mem::take(&mut state.ends) {
+            // (where nobody waits any more it is dropped)
+            let _ = ended.send(Err(why.clone()));
+        }
+        state.failure = Some(why);
+        drop(state);
+        self.turned.notify_waiters();
+    }
+}
+
+impl State {
+    fn is_usable(&self) -> Result<(), Error> {
+        self.failure.clone().map_or(Ok(()), Err)
+    }
+
+    fn take_all(&mut self) -> Result<(), Error> {
+        let State { service, ends, requests, notices, .. } = self;
+        while let Some(event) = service.next_event_within(Duration::ZERO)? {
+            let (call, end) = match event {
+                Event::Answered { call, octets } => (call, Ok(octets.to_vec())),
+                Event::Unsure { call, cause } => (call, Err(Error::Unsure { cause })),
+                Event::Request { .. } => {
+                    requests.push_back(event.into_owned());
+                    continue;
+                }
+                // (whoever waits for room tries again after each turn)
+                Event::Room => continue,
+                other => {
+                    notices.push_back(other.into_owned());
+                    notices.drain(..notices.len().saturating_sub(MOST_NOTICES));
+                    continue;
+                }
+            };
+            if let Some(ended) = ends.remove(&call) {
+                let _ = ended.send(end);
+            }
+        }
+        Ok(())
+    }
+}
+
+impl Drop for Task {
+    fn drop(&mut self) {
+        self.0.abort();
+    }
+}
+
+impl fmt::Debug for AsyncCalls {
+    fn fmt(&self, f: &mut fmt::Formatter<'_>) -> fmt::Result {
+        let is_over = self.task.0.is_finished();
+        f.debug_struct("AsyncCalls").field("is_over", &is_over).finish_non_exhaustive()
+    }
+}
