@@ -152,6 +152,7 @@ struct dt_udp_event {
     uint8_t cause; /* enum dt_cause (UNSURE), enum dt_status_code (PUT_ENDED, FAILED) */
     bool gap;      /* octets of the flow before this message may be missing */
     const struct dt_report *report; /* of DT_UDP_EVENT_REPORT, else null */
+    uint64_t user; /* of ANSWERED and UNSURE: what the call was given by dt_udp_make_call, else 0 */
 };
 
 /* Counters begin at 0 when the driver is opened. */
@@ -231,6 +232,20 @@ struct dt_send_result dt_udp_send(dt_udp *udp, const struct dt_flow *flow, const
  *   DT_NOT_OPEN  also: the driver is a node's, failed, or is in a forked child */
 struct dt_call_result dt_udp_call(dt_udp *udp, const struct dt_flow *flow, const void *octets, size_t len,
                            uint32_t timeout_ms);
+
+/* Of a call. Zero the struct, and set `size` and what you need. */
+struct dt_udp_call_options {
+    uint32_t size;       /* sizeof(struct dt_udp_call_options) */
+    uint32_t timeout_ms; /* at least 1 */
+    struct dt_flow flow; /* from a caller's port of this node */
+    uint64_t user;       /* the event of its end has it: a pointer, an index, or 0 */
+};
+
+/* Makes a call as dt_udp_call does, with a value of the caller's that its end has: so the caller needs no table of
+ * calls by their numbers.
+ *   DT_INVALID  also: options.size isn't that of the struct */
+struct dt_call_result dt_udp_make_call(dt_udp *udp, const struct dt_udp_call_options *options, const void *octets,
+                                       size_t len);
 
 /* Replies to a request, once; of a service. `octets` may be those of the event. As dt_service_reply. A reply may wait
  * in the driver as a call does; then DT_OK says only that it was kept, and a second one for the same request is
@@ -357,10 +372,11 @@ dt_status dt_udp_set_neighbour(dt_udp *udp, const struct dt_route *route, const 
 /* One event of a batch. It has no pointer, so that a binding reads many at once. */
 struct dt_udp_item {
     uint64_t call;       /* of an end, or of the request's token */
-    uint32_t at, len;    /* where its octets are in the room, and how many */
-    struct dt_flow flow; /* of a request, or of REPLY_UNCERTAIN */
-    uint8_t kind;        /* enum dt_udp_event_kind: REQUEST, ANSWERED, UNSURE or REPLY_UNCERTAIN */
-    uint8_t cause;       /* of UNSURE: enum dt_cause */
+    uint32_t at, len;    /* where its octets are in the room, and how many; of TOO_BIG: of the datagram */
+    struct dt_flow flow; /* of a request, or of REPLY_UNCERTAIN; of TOO_BIG and ALARM its target is the peer */
+    uint8_t kind;        /* enum dt_udp_event_kind */
+    uint8_t cause;       /* of UNSURE: enum dt_cause; of ALARM: enum dt_udp_alarm */
+    uint64_t user;       /* of an end: what dt_udp_make_call was given */
 };
 
 /* Zero the struct, and set the first four. */

@@ -11,30 +11,28 @@ static bool has_room(const struct dt_udp_batch *b) {
     return b->count < b->max_items && b->size - b->used >= DT_MAX_PAYLOAD;
 }
 
-/* Adds the event `it` of a service, whose octets are in the room already. */
-static void add(dt_udp *u, struct dt_udp_batch *b, const struct dt_event *it) {
-    static const uint8_t KINDS[] = {[DT_EVENT_REQUEST] = DT_UDP_EVENT_REQUEST,
-                                    [DT_EVENT_ANSWERED] = DT_UDP_EVENT_ANSWERED,
-                                    [DT_EVENT_UNSURE] = DT_UDP_EVENT_UNSURE,
-                                    [DT_EVENT_REPLY_UNCERTAIN] = DT_UDP_EVENT_REPLY_UNCERTAIN};
-    bool ends = it->kind == DT_EVENT_ANSWERED || it->kind == DT_EVENT_UNSURE;
-    b->items[b->count++] = (struct dt_udp_item){.call = it->call,
-                                                .at = b->used,
-                                                .len = (uint32_t)it->len,
-                                                .flow = it->flow,
-                                                .kind = KINDS[it->kind],
-                                                .cause = it->cause};
-    b->used += (uint32_t)it->len;
-    if (ends && u->open_calls > 0) u->open_calls--;
+/* Adds the driver's event, whose octets are in the room already. */
+static void add(dt_udp *u, struct dt_udp_batch *b) {
+    const struct dt_udp_event *it = &u->event;
+    bool is_request = it->kind == DT_UDP_EVENT_REQUEST;
+    struct dt_udp_item *item = &b->items[b->count++];
+    *item = (struct dt_udp_item){.call = is_request ? it->token.call : it->call,
+                                 .at = b->used,
+                                 .len = (uint32_t)it->len,
+                                 .flow = is_request ? it->token.flow : it->flow,
+                                 .kind = it->kind,
+                                 .cause = it->cause,
+                                 .user = it->user};
+    if (it->peer) item->flow.target = it->peer;
+    if (it->octets) b->used += (uint32_t)it->len;
 }
 
 /* Takes the events that wait. False: there may be more than there is room for. */
 static bool take(dt_udp *u, struct dt_udp_batch *b) {
-    struct dt_event it;
     if (u->core.service == NULL || b->max_items == 0) return true;
     while (has_room(b)) {
-        if (dtu_core_next_event(&u->core, b->octets + b->used, DT_MAX_PAYLOAD, &it) != DT_OK) return true;
-        add(u, b, &it);
+        if (!dtu_events_next(u, b->octets + b->used)) return true;
+        add(u, b);
     }
     return false;
 }

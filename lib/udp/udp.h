@@ -153,6 +153,14 @@ struct governing {
     bool object_waits;                           /* a chunk may not enter yet */
 };
 
+/* The user of a call that waited: the governor, and so the library, knows the call by its number. */
+struct user {
+    struct user *next; /* in its bucket */
+    uint64_t call, user;
+};
+
+enum { USERS = 1024 };
+
 struct peer {
     struct peer *next; /* in its bucket */
     struct peer *next_waiting;
@@ -351,6 +359,7 @@ struct dt_udp {
     struct objects objects;
     struct watching watching;
     struct governing governing;
+    struct user **users;   /* USERS buckets by the number of the call; null: there was none yet */
     struct queue queue;
     struct reports reports;
     struct message *lent;  /* what the last event points to */
@@ -400,6 +409,8 @@ struct dt_send_result dtu_core_send(struct core *core, uint64_t now, const struc
                                     const struct iovec *octets);
 struct dt_call_result dtu_core_call(struct core *core, uint64_t now, const struct dt_flow *flow,
                                     const struct iovec *octets, uint32_t timeout_ms);
+struct dt_call_result dtu_core_make_call(struct core *core, uint64_t now, const struct dt_udp_call_options *options,
+                                         const struct iovec *octets);
 struct dt_reply_result dtu_core_reply(struct core *core, uint64_t now, const struct dt_token *token,
                                       const struct iovec *octets);
 dt_status dtu_core_forget(struct core *core, uint64_t now, const struct dt_token *token);
@@ -513,6 +524,10 @@ bool dtu_govern_event(dt_udp *u);
 void dtu_govern_release(dt_udp *u);
 uint64_t dtu_govern_wake(const dt_udp *u, uint64_t now);
 
+/* --- calls.c */
+uint64_t dtu_calls_user(dt_udp *u, uint64_t call);
+void dtu_calls_close(dt_udp *u);
+
 /* --- reading.c */
 dt_status dtu_reading_open(dt_udp *u);
 void dtu_reading_close(dt_udp *u);
@@ -545,6 +560,7 @@ void dtu_loop_turn(dt_udp *u, int wait_ms);
 dt_status dtu_events_open(dt_udp *u);
 void dtu_events_close(dt_udp *u);
 void dtu_events_collect(dt_udp *u, uint64_t at);
+bool dtu_events_next(dt_udp *u, uint8_t *room);
 bool dtu_events_keep_up(dt_udp *u, uint64_t now);
 
 #endif

@@ -121,6 +121,7 @@ class Event(ctypes.Structure):
         ("cause", ctypes.c_uint8),
         ("gap", ctypes.c_bool),
         ("report", ctypes.POINTER(_c.Report)),
+        ("user", ctypes.c_uint64),
     ]
 
 
@@ -153,6 +154,17 @@ class Counts(ctypes.Structure):
         ("openings_proved", ctypes.c_uint64),
         ("pings_in", ctypes.c_uint64),
         ("pings_out", ctypes.c_uint64),
+    ]
+
+
+class CallOptions(ctypes.Structure):
+    """Of a call. Zero the struct, and set `size` and what you need."""
+
+    _fields_ = [
+        ("size", ctypes.c_uint32),
+        ("timeout_ms", ctypes.c_uint32),
+        ("flow", _c.Flow),
+        ("user", ctypes.c_uint64),
     ]
 
 
@@ -234,6 +246,7 @@ class Item(ctypes.Structure):
         ("flow", _c.Flow),
         ("kind", ctypes.c_uint8),
         ("cause", ctypes.c_uint8),
+        ("user", ctypes.c_uint64),
     ]
 
 
@@ -280,6 +293,15 @@ FUNCTIONS: dict[str, tuple[Any, list[Any]]] = {
             ctypes.c_void_p,
             ctypes.c_size_t,
             ctypes.c_uint32,
+        ],
+    ),
+    "dt_udp_make_call": (
+        _c.CallResult,
+        [
+            ctypes.c_void_p,
+            ctypes.POINTER(CallOptions),
+            ctypes.c_void_p,
+            ctypes.c_size_t,
         ],
     ),
     "dt_udp_reply": (_c.ReplyResult, [ctypes.c_void_p, ctypes.POINTER(_c.Token), ctypes.c_void_p, ctypes.c_size_t]),
