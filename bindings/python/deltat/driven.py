@@ -1,4 +1,4 @@
-"""A node of this process over a UDP socket, by libdeltat-udp: what `Udp` and `AsyncUdp` stand on.
+"""A node of this process over a UDP socket, by libdeltat-udp: what `Udp`, `AsyncUdp` and `deltat.driver` stand on.
 
 The driver has the socket, the clock and the timer: it reads the socket and passes datagrams in, puts what leaves the
 node on the wire, and does what is due. The node's handle stays the node's. A node whose class has its own `receive`,
@@ -27,9 +27,11 @@ if TYPE_CHECKING:
 MAX_ITEMS, ROOM = 1024, 262_144
 """How many events are taken at once, and of how many octets."""
 LONGEST_WAIT_MS = 1000
-# the structs `dt_udp_item` and `dt_token`: the flow's two nodes are before its two ports
-_ITEM, _TOKEN = struct.Struct("=QIIIIHHBB2x"), struct.Struct("=QIIHH4x")
-assert _ITEM.size == ctypes.sizeof(_c_udp.Item) and _TOKEN.size == ctypes.sizeof(_c.Token)
+# the structs `dt_udp_item`, `dt_token` and `dt_udp_call_options`: a flow's two nodes are before its two ports
+_ITEM, _TOKEN, _CALL = struct.Struct("=QIIIIHHBB2xQ"), struct.Struct("=QIIHH4x"), struct.Struct("=IIIIHH4xQ")
+assert (_ITEM.size, _TOKEN.size, _CALL.size) == tuple(
+    map(ctypes.sizeof, (_c_udp.Item, _c.Token, _c_udp.CallOptions))
+)
 
 
 def refuse(error: _c_udp.Error) -> NoReturn:
@@ -56,62 +58,25 @@ def _numeric(address: tuple[str, int]) -> tuple[bytes, bytes]:
     return host.encode(), str(port).encode()
 
 
-class Driven:
-    """The driver of a node, for one thread at a time."""
+class Driver:
+    """What drives a node, for one thread at a time."""
 
-    def __init__(self, node: AnyNode, bind: tuple[str, int]) -> None:
-        """Binds the socket. Raises UdpError if the system refuses it, InvalidArgument or OutOfMemory."""
+    def __init__(self, handle: int, kept: list[object], failures: list[BaseException]) -> None:
+        """Takes over a driver that is open. `kept`: what has to live until it is closed. `failures`: what functions
+        raised that it called."""
         self._waits, self._short = drivers()
-        self._node, self._failures, self._ended = node, list[BaseException](), (0, 0)
-        host, port = _numeric(bind)
-        options, given, error = _c.sized(_c_udp.Options), _c.sized(_c_udp.Driven), _c_udp.Error()
-        options.node, options.host, options.port = node.number, host, port
-        options.params = ctypes.pointer(params_of(node.params))
-        setattr(given, node._DRIVEN_AS, node._handle)
-        # (the driver has their addresses until it is closed)
-        self._kept: list[object] = [self._hooked(given) if is_hooked(node) else self._keeper(given)]
-        handle: int | None = self._waits.dt_udp_drive(given, options, error)
-        if not handle:
-            refuse(error)
         self._handle: int | None = handle
+        self._ended, self._failures = (0, 0), failures
         self.socket = socket.socket(fileno=self._short.dt_udp_socket(handle))
         room, items = ctypes.create_string_buffer(ROOM), (_c_udp.Item * MAX_ITEMS)()
-        self._heard, self._token = (ctypes.c_uint32 * _c_udp.MAX_HEARD)(), _c.Token()
+        self._heard, self._token, self._options = (ctypes.c_uint32 * _c_udp.MAX_HEARD)(), _c.Token(), _c_udp.CallOptions()
         self._octets_view, self._items_view = memoryview(room), memoryview(items).cast("B")
         self._batch = _c_udp.Batch(items=items, octets=ctypes.addressof(room), size=ROOM, heard=self._heard)
-        self._call, self._reply = self._short.dt_udp_call, self._short.dt_udp_reply
+        self._call, self._reply = self._short.dt_udp_make_call, self._short.dt_udp_reply
         self._next, self._waits_next = self._short.dt_udp_next_batch, self._waits.dt_udp_next_batch
         self._counts = self._short.dt_udp_get_counts(self._handle).contents
-        self._finalizer = weakref.finalize(self, _close, self._waits, handle, self.socket, self._kept)
+        self._finalizer = weakref.finalize(self, _close, self._waits, handle, self.socket, kept)
         self._finalizer.atexit = False
-
-    def _hooked(self, given: _c_udp.Driven) -> object:
-        """Has the node's own functions called, which tell its state of each input."""
-        it = Hooked(self._node, self._failures)
-        given.hooks = ctypes.pointer(it.hooks)
-        return it
-
-    def _keeper(self, given: _c_udp.Driven) -> object:
-        """Has the node's state told of each input before it is done."""
-        state, failures = self._node._state, self._failures
-        if state is None:
-            return None
-        keeper = getattr(state, "_keeper", None)
-        extends = state.note_packet if keeper is None else state._extend
-        if keeper is None:
-            keeper = _c_udp.Keeper()
-
-        def extend(_: object, at: int) -> bool:
-            try:
-                extends(at)
-            except BaseException as why:
-                failures.append(why)
-                return False
-            return True
-
-        keeper.extend = _c_udp.KeeperExtend(extend)
-        given.keeper = ctypes.pointer(keeper)
-        return keeper
 
     @property
     def is_closed(self) -> bool:
@@ -125,17 +90,17 @@ class Driven:
             self._finalizer()
 
     def _open(self) -> int:
-        """The driver's address. Raises Forked in a child of the process that opened it, or Stopped."""
+        """The driver's address. Raises Stopped if it is closed."""
         if not self._handle:
-            self._node._handle
-            raise Stopped(f"node {self._node.number} is closed: open it again with Start.AGAIN")
+            raise Stopped("the driver is closed; open one again")
         return self._handle
 
-    def set_neighbour(self, number: int, link: int, address: tuple[str, int]) -> None:
-        """Sets the address of a node at the other end of a link. Raises InvalidArgument or OutOfMemory."""
-        error = _c_udp.Error()
-        if self._waits.dt_udp_set_neighbour(self._open(), _c.Route(number, link), *_numeric(address), error):
-            refuse(error)
+    def _raise(self, status: int) -> None:
+        """Raises the error of a status, if it is for good."""
+        if status == Status.NO_MEMORY:
+            raise OutOfMemory("out of memory; close the driver and open it again")
+        if status in (Status.NOT_OPEN, Status.STOPPED):
+            raise Stopped("the driver failed, or this is a forked child; open a driver again")
 
     def fileno(self) -> int:
         """A descriptor that is readable if something arrived or is due."""
@@ -159,7 +124,7 @@ class Driven:
 
     def events(self) -> tuple[Iterator[tuple[int, ...]], bytes]:
         """The events of the last turn, and their octets. Of each event: the call, the place of its octets and their
-        number, the flow's source, target and their ports, the kind and the cause."""
+        number, the flow's source, target and their ports, the kind, the cause and the user."""
         batch = self._batch
         return _ITEM.iter_unpack(self._items_view[: batch.count * _ITEM.size]), bytes(self._octets_view[: batch.used])
 
@@ -195,7 +160,7 @@ class Driven:
         error = self._short.dt_udp_system_error(self._open())
         if error:
             raise UdpError(error, os.strerror(error))
-        self._node._raise(status)
+        self._raise(status)
 
     # --- what the program does
 
@@ -205,8 +170,17 @@ class Driven:
         turned: bool = self._short.dt_udp_flush_since(self._handle or self._open(), at)
         return turned
 
-    def call(self, flow: Flow, octets: bytes, timeout_ms: int) -> _c.CallResult:
-        made: _c.CallResult = self._call(self._handle or self._open(), flow_to_c(flow), octets, len(octets), timeout_ms)
+    def call(self, flow: Flow, octets: bytes, timeout_ms: int, user: int) -> _c.CallResult:
+        """Makes a call whose end has `user`. Raises InvalidArgument if a number is out of range."""
+        source, source_port, target, target_port = flow
+        try:
+            _CALL.pack_into(
+                self._options, 0, _CALL.size, timeout_ms, source, target, source_port, target_port, user
+            )
+        except struct.error:
+            flow_to_c(flow)  # (raises which one)
+            raise InvalidArgument(f"a call on {flow}: timeout_ms is {timeout_ms}; it has 32 bits") from None
+        made: _c.CallResult = self._call(self._handle or self._open(), self._options, octets, len(octets))
         return made
 
     def _put_token(self, flow: Flow, call: int) -> None:
@@ -232,6 +206,71 @@ class Driven:
     @property
     def unknown(self) -> int:
         return int(self._counts.unknown) if self._handle else self._ended[1]
+
+
+class Driven(Driver):
+    """The driver of a node that the program opened."""
+
+    def __init__(self, node: AnyNode, bind: tuple[str, int]) -> None:
+        """Binds the socket. Raises UdpError if the system refuses it, InvalidArgument or OutOfMemory."""
+        self._node, failures = node, list[BaseException]()
+        host, port = _numeric(bind)
+        options, given, error = _c.sized(_c_udp.Options), _c.sized(_c_udp.Driven), _c_udp.Error()
+        options.node, options.host, options.port = node.number, host, port
+        options.params = ctypes.pointer(params_of(node.params))
+        setattr(given, node._DRIVEN_AS, node._handle)
+        # (the driver has their addresses until it is closed)
+        kept = [_hooked(node, given, failures) if is_hooked(node) else _kept(node, given, failures)]
+        handle: int | None = drivers().waits.dt_udp_drive(given, options, error)
+        if not handle:
+            refuse(error)
+        super().__init__(handle, kept, failures)
+
+    def _open(self) -> int:
+        """The driver's address. Raises Forked in a child of the process that opened it, or Stopped."""
+        if not self._handle:
+            self._node._handle
+            raise Stopped(f"node {self._node.number} is closed: open it again with Start.AGAIN")
+        return self._handle
+
+    def _raise(self, status: int) -> None:
+        self._node._raise(status)
+
+    def set_neighbour(self, number: int, link: int, address: tuple[str, int]) -> None:
+        """Sets the address of a node at the other end of a link. Raises InvalidArgument or OutOfMemory."""
+        error = _c_udp.Error()
+        if self._waits.dt_udp_set_neighbour(self._open(), _c.Route(number, link), *_numeric(address), error):
+            refuse(error)
+
+
+def _hooked(node: AnyNode, given: _c_udp.Driven, failures: list[BaseException]) -> object:
+    """Has the node's own functions called, which tell its state of each input."""
+    it = Hooked(node, failures)
+    given.hooks = ctypes.pointer(it.hooks)
+    return it
+
+
+def _kept(node: AnyNode, given: _c_udp.Driven, failures: list[BaseException]) -> object:
+    """Has the node's state told of each input before it is done."""
+    state = node._state
+    if state is None:
+        return None
+    keeper = getattr(state, "_keeper", None)
+    extends = state.note_packet if keeper is None else state._extend
+    if keeper is None:
+        keeper = _c_udp.Keeper()
+
+    def extend(_: object, at: int) -> bool:
+        try:
+            extends(at)
+        except BaseException as why:
+            failures.append(why)
+            return False
+        return True
+
+    keeper.extend = _c_udp.KeeperExtend(extend)
+    given.keeper = ctypes.pointer(keeper)
+    return keeper
 
 
 def _close(library: ctypes.CDLL, handle: int, its_socket: socket.socket, kept: list[object]) -> None:

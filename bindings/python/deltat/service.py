@@ -33,6 +33,7 @@ import asyncio
 import contextlib
 import ctypes
 import inspect
+import itertools
 import logging
 import time
 import weakref
@@ -44,12 +45,13 @@ from typing import TYPE_CHECKING, NamedTuple, NoReturn, Protocol, TypeGuard
 
 from . import _c, clock
 from ._c import Cause, EventKind, InvalidReason, PortKind, Start, Status
+from ._c_udp import Alarm
 from ._c_udp import EventKind as Kind
 from ._library import library
 from .errors import Declined, Forked, Full, Gone, InvalidArgument, OutOfMemory, Stopped, Unsure
 from .node import AnyNode, Exports
-from .driven import Driven
-from .udp import AsyncUdp, Udp
+from .driven import Driver
+from .udp import AnyAsyncUdp, AnyUdp
 from .values import Flow, Link, Params, flow_from_c, flow_to_c, in_range, octets_of
 
 if TYPE_CHECKING:
@@ -63,6 +65,10 @@ _INVALID = {
     InvalidReason.TIMEOUT: "timeout_ms is 0; it must be at least 1",
     InvalidReason.TOTAL: "2^62 octets would have been passed in",
 }
+
+
+_FIRST_USER = 1 << 63
+"""The users of calls by `Calls` are counted from here on, and those that a program gives to `Service.call` are lower."""
 
 
 class Token(NamedTuple):
@@ -162,7 +168,7 @@ class Service(AnyNode):
         super().__init__(node, params, links, routes, start, state)
         self.limits, self.life = limits, life or 0 if self._state is None else self._state.life
         self._kinds: dict[int, PortKind] = {}
-        self._desk = _Desk(self)
+        self._desk = _Desk()
         self._event = _c.sized(_c.Event)
         options.life = self.life
         self._open(at, options)
@@ -197,15 +203,8 @@ class Service(AnyNode):
             self._handle, self._noted(at), flow_to_c(flow), octets, len(octets), timeout_ms, user
         )
         if made.status != Status.OK:
-            self._decline(flow, made)
+            _decline(self._raise, flow, made)
         return int(made.call)
-
-    def _decline(self, flow: Flow, made: _c.CallResult) -> NoReturn:
-        """Raises why a call wasn't made."""
-        if made.status == Status.INVALID:
-            raise _invalid(f"a call on {flow}", made.invalid)
-        self._raise(made.status)
-        raise Declined(Status(made.status), made.quiet_until, made.free)
 
     def reply(self, token: Token, payload: bytes, at: int | None = None) -> None:
         """Replies to a request, once. Raises Gone; Full: try again later (a reply needs 8 octets more than its
@@ -214,16 +213,7 @@ class Service(AnyNode):
         octets = octets_of(payload)
         it = library.dt_service_reply(self._handle, self._noted(at), _token(token), octets, len(octets))
         if it.status != Status.OK:
-            self._refuse_reply(token, it)
-
-    def _refuse_reply(self, token: Token, it: _c.ReplyResult) -> NoReturn:
-        """Raises why a reply wasn't sent."""
-        if it.status == Status.FULL:
-            raise Full(it.free)
-        if it.status == Status.INVALID:
-            raise _invalid(f"a reply to call {token.call} on {token.flow}", it.invalid)
-        self._raise(it.status)
-        raise _gone(token)
+            _refuse_reply(self._raise, token, it)
 
     def forget(self, token: Token, at: int | None = None) -> None:
         """Closes a request without a reply: its caller becomes unsure. Raises Gone, OutOfMemory or Stopped."""
@@ -279,6 +269,24 @@ class Service(AnyNode):
 def _invalid(what: str, invalid: int) -> InvalidArgument:
     reason = InvalidReason(invalid)
     return InvalidArgument(f"{what}: {_INVALID[reason]}", reason=reason)
+
+
+def _decline(raises: Callable[[int], None], flow: Flow, made: _c.CallResult) -> NoReturn:
+    """Raises why a call wasn't made. `raises` does so for a status that is for good."""
+    if made.status == Status.INVALID:
+        raise _invalid(f"a call on {flow}", made.invalid)
+    raises(made.status)
+    raise Declined(Status(made.status), made.quiet_until, made.free)
+
+
+def _refuse_reply(raises: Callable[[int], None], token: Token, it: _c.ReplyResult) -> NoReturn:
+    """Raises why a reply wasn't sent."""
+    if it.status == Status.FULL:
+        raise Full(it.free)
+    if it.status == Status.INVALID:
+        raise _invalid(f"a reply to call {token.call} on {token.flow}", it.invalid)
+    raises(it.status)
+    raise _gone(token)
 
 
 def _gone(token: Token) -> Gone:
@@ -338,16 +346,21 @@ class _End:
 
 _made = tuple.__new__
 _ANSWERED, _REQUEST, _UNSURE = int(Kind.ANSWERED), int(Kind.REQUEST), int(Kind.UNSURE)
+_UNCERTAIN, _TOO_BIG, _ALARM = int(Kind.REPLY_UNCERTAIN), int(Kind.TOO_BIG), int(Kind.ALARM)
+_ALARMS = {
+    Alarm.CLOCK: "a clock stood, was set or is wrong; close the driver of the end whose clock it was, and open it again",
+    Alarm.PARAMETERS: "it has other parameters; give all nodes the same",
+}
 
 
 class _Desk:
     """Takes the events of a service: the end of each call goes to who waits for it, each request into the line of who
     serves its port. A node has one, however many `Calls` there are over its socket."""
 
-    def __init__(self, node: Service) -> None:
-        # (the node has the desk)
-        self._node = weakref.ref(node)
+    def __init__(self) -> None:
+        # who waits for the end of each call, by the number that the call was given as its user
         self.ends: dict[int, _Ends] = {}
+        self.users = itertools.count(_FIRST_USER)
         # the lines of ports that are served, the requests for other ports, and the lines that are waited for
         self.lines: weakref.WeakValueDictionary[int, _Line] = weakref.WeakValueDictionary()
         self.others: deque[Request] = deque()
@@ -378,7 +391,7 @@ class _Desk:
         """Returns the first request that waits in a line, or else one for a port that nobody serves."""
         return line.requests.popleft() if line.requests else self.others.popleft() if self.others else None
 
-    def turn(self, driven: Driven, wait_ms: int) -> None:
+    def turn(self, driven: Driver, wait_ms: int) -> None:
         """Has the driver take a turn, and passes on the events that it took. Raises OutOfMemory or Stopped, after
         that."""
         status = driven.turn(wait_ms)
@@ -387,11 +400,11 @@ class _Desk:
         if status:
             driven.check(status)
 
-    def _pass_on(self, driven: Driven) -> None:
+    def _pass_on(self, driven: Driver) -> None:
         ends, (items, octets) = self.ends, driven.events()
-        for call, at, size, source, target, source_port, target_port, kind, cause in items:
+        for call, at, size, source, target, source_port, target_port, kind, cause, user in items:
             if kind == _ANSWERED or kind == _UNSURE:
-                end = ends.pop(call, None)
+                end = ends.pop(user, None)
                 if end is None or end.done():
                     continue
                 if kind == _ANSWERED:
@@ -402,8 +415,12 @@ class _Desk:
             flow = _made(Flow, (source, source_port, target, target_port))
             if kind == _REQUEST:
                 self._ask(_made(Request, (_made(Token, (flow, call)), octets[at : at + size])))
-            else:
+            elif kind == _UNCERTAIN:
                 self.uncertain.add(flow)
+            elif kind == _TOO_BIG:
+                _log.warning("a datagram of %d octets to node %d doesn't fit the path; make seg smaller", size, target)
+            elif kind == _ALARM:
+                _log.error("nothing of node %d passes any more: %s", target, _ALARMS[Alarm(cause)])
 
     def _ask(self, request: Request) -> None:
         """Puts a request into the line of its port."""
@@ -426,13 +443,6 @@ class _Desk:
             line.wake()
 
 
-def _service(node: AnyNode) -> Service:
-    """Returns the node, if it is a service. Raises InvalidArgument if it isn't."""
-    if not isinstance(node, Service):
-        raise InvalidArgument(f"node {node.number} isn't a deltat.Service: it has plain messages, and no calls")
-    return node
-
-
 Serves = Callable[[Request], bytes | None]
 ServesSometime = Callable[[Request], bytes | None | Awaitable[bytes | None]]
 
@@ -443,26 +453,28 @@ class Calls:
     There may be several over one socket. Each call gets its own end. A request goes to those `Calls` that serve its
     port, by `ports` or by a function (`on`); one for a port that nobody named goes to any."""
 
-    def __init__(self, udp: Udp, ports: Iterable[int] = ()) -> None:
+    def __init__(self, udp: AnyUdp, ports: Iterable[int] = ()) -> None:
         """Raises InvalidArgument if the socket's node isn't a service, or other `Calls` serve a port."""
-        self.udp: Udp = udp
-        self.node: Service = _service(udp.node)
-        self._desk = self.node._desk
+        self.udp = udp
+        self._desk = _desk_of(udp)
         self._line = self._desk.opened(ports)
         self.uncertain: set[Flow] = self._desk.uncertain
         """The flows of requests of which a reply was given up, of all `Calls` over this socket. The program removes
         those that it has handled."""
         self._functions: dict[int, Serves] = {}
-        udp._attend(self._desk)
+
+    @property
+    def node(self) -> Service:
+        """The service that the socket drives. Raises InvalidArgument if the driver opened it itself."""
+        return _service_of(self.udp)
 
     def call(self, flow: Flow, payload: bytes, timeout: float = 5.0) -> bytes:
         """Makes a call, and returns its answer, within `timeout` seconds. Raises Unsure; Declined, InvalidArgument or
         Stopped if it wasn't made; OutOfMemory if the node ran out of memory in it: take the call as unsure."""
-        end, udp, ends = _End(), self.udp, self._desk.ends
+        end, udp, desk = _End(), self.udp, self._desk
         udp._enter()
         with udp._lock:
-            number = _call(udp, flow, payload, timeout)
-            ends[number] = end
+            user = _call(udp, desk, end, flow, payload, timeout)
         try:
             while not end.is_over:
                 udp._turn(None)
@@ -470,7 +482,7 @@ class Calls:
             if not end.is_over:
                 raise Unsure(Cause.STOPPED) from None
         finally:
-            ends.pop(number, None)
+            desk.ends.pop(user, None)
         if end.why:
             raise end.why
         return end.answer
@@ -482,7 +494,7 @@ class Calls:
         while True:
             end = None if seconds is None else time.monotonic() + seconds
             if udp.is_closed:
-                self.node.wake  # Forked, in a child
+                udp._test()
                 return
             while (request := self._desk.next_request(self._line)) is None:
                 left = None if end is None else end - time.monotonic()
@@ -496,7 +508,7 @@ class Calls:
                     return
             yield request
             # (many requests may wait, and each may take its time: the node's work is done between them)
-            udp.flush(clock.now())
+            udp._flush(clock.now())
 
     def reply(self, token: Token, payload: bytes, seconds: float = 60.0) -> None:
         """Replies, as soon as there is room, within this many seconds. Raises Gone, Full or InvalidArgument; TypeError
@@ -512,7 +524,7 @@ class Calls:
                     if time.monotonic() >= end:
                         raise
                 finally:
-                    udp.flush(clock.now())
+                    udp._flush(clock.now())
             udp._turn(0.05)
 
     def on(self, port: int) -> Callable[[Serves], Serves]:
@@ -549,30 +561,43 @@ class Calls:
         udp = self.udp
         with udp._lock, contextlib.suppress(Gone, Stopped):
             _forget(udp, token)
-            udp.flush(clock.now())
+            udp._flush(clock.now())
 
 
 # --- what both kinds of calls do: by the driver, which reads the clock
 
 
-def _call(udp: Udp, flow: Flow, payload: bytes, timeout: float) -> int:
-    """Makes a call, and returns its number. Raises what `Service.call` raises."""
-    octets = octets_of(payload)
-    made = udp._driven.call(flow, octets, _ms(timeout))
+def _desk_of(udp: AnyUdp) -> _Desk:
+    desk = udp._calls_desk()
+    assert isinstance(desk, _Desk)
+    return desk
+
+
+def _service_of(udp: AnyUdp) -> Service:
+    node = getattr(udp, "node", None)
+    if not isinstance(node, Service):
+        raise InvalidArgument(f"node {udp._number} isn't a deltat.Service of this program")
+    return node
+
+
+def _call(udp: AnyUdp, desk: _Desk, end: _Ends, flow: Flow, payload: bytes, timeout: float) -> int:
+    """Makes a call for who waits for its end, and returns its user. Raises what `Service.call` raises."""
+    octets, user = octets_of(payload), next(desk.users)
+    made = udp._driven.call(flow, octets, _ms(timeout), user)
     if made.status:
-        _service(udp.node)._decline(flow, made)
-    number: int = made.call
-    return number
+        _decline(udp._driven.check, flow, made)
+    desk.ends[user] = end
+    return user
 
 
-def _reply(udp: Udp, token: Token, payload: bytes) -> None:
+def _reply(udp: AnyUdp, token: Token, payload: bytes) -> None:
     """Replies. Raises what `Service.reply` raises."""
     replied = udp._driven.reply(*token, octets_of(payload))
     if replied.status:
-        _service(udp.node)._refuse_reply(token, replied)
+        _refuse_reply(udp._driven.check, token, replied)
 
 
-def _forget(udp: Udp, token: Token) -> None:
+def _forget(udp: AnyUdp, token: Token) -> None:
     """Forgets a request. Raises what `Service.forget` raises."""
     status = udp._driven.forget(*token)
     if status == Status.GONE:
@@ -589,12 +614,11 @@ class AsyncCalls:
     """As `Calls`, over `AsyncUdp`: many calls may wait at once, and many requests be served. Timeouts are in
     seconds."""
 
-    def __init__(self, udp: AsyncUdp, ports: Iterable[int] = (), workers: int = 1) -> None:
+    def __init__(self, udp: AnyAsyncUdp, ports: Iterable[int] = (), workers: int = 1) -> None:
         """As `Calls`. `workers`: how many threads run the plain functions that serve ports."""
-        self.udp: AsyncUdp = udp
-        self.node: Service = _service(udp.node)
+        self.udp = udp
         self._loop = udp._loop
-        self._desk = self.node._desk
+        self._desk = _desk_of(udp.udp)
         self._came = asyncio.Event()
         self._line = self._desk.opened(ports, self._came.set)
         self.uncertain: set[Flow] = self._desk.uncertain
@@ -602,8 +626,12 @@ class AsyncCalls:
         self._functions: dict[int, Callable[[Request], Awaitable[bytes | None]]] = {}
         self._tasks: set[asyncio.Task[None]] = set()
         # (its threads begin with the first plain function, and end when this is dropped)
-        self._threads = ThreadPoolExecutor(workers, f"deltat node {self.node.number}")
-        udp.udp._attend(self._desk)
+        self._threads = ThreadPoolExecutor(workers, f"deltat node {udp.udp._number}")
+
+    @property
+    def node(self) -> Service:
+        """As that of `Calls`."""
+        return _service_of(self.udp.udp)
 
     async def call(self, flow: Flow, payload: bytes, timeout: float = 5.0) -> bytes:
         """Makes a call, and returns its answer, within `timeout` seconds. Raises Unsure; Declined, InvalidArgument or
@@ -614,7 +642,7 @@ class AsyncCalls:
             udp._check()
         end: asyncio.Future[bytes] = self._loop.create_future()
         try:
-            self._desk.ends[_call(udp.udp, flow, payload, timeout)] = end
+            _call(udp.udp, self._desk, end, flow, payload, timeout)
         except OutOfMemory as why:
             udp._fail(why)
             raise
@@ -705,7 +733,7 @@ class AsyncCalls:
             if not self.udp._failure:
                 _log.exception(
                     "node %d: call %d on %s has no reply: it is forgotten, and its caller will be unsure",
-                    self.node.number,
+                    self.udp.udp._number,
                     token.call,
                     token.flow,
                 )
