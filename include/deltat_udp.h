@@ -379,6 +379,13 @@ struct dt_udp_item {
     uint64_t user;       /* of an end: what dt_udp_make_call was given */
 };
 
+/* A call of a batch. Its octets are behind those of the call before. */
+struct dt_udp_batch_call {
+    struct dt_flow flow;
+    uint32_t timeout_ms, len;
+    uint64_t user;
+};
+
 /* Zero the struct, and set the first four. */
 struct dt_udp_batch {
     struct dt_udp_item *items;
@@ -389,12 +396,16 @@ struct dt_udp_batch {
     uint32_t heard_count;     /* set: the nodes whose datagrams were passed in, each at least once; DT_UDP_MAX_HEARD
                                  also if there were more */
     bool blocked;             /* set: the guard of a driven node dropped a datagram */
+    const struct dt_udp_batch_call *calls; /* [null] `call_count` calls to make first, as by dt_udp_make_call */
+    const uint8_t *payloads;
+    uint32_t call_count, calls_made; /* set: how many of them were made. If one wasn't, those after it aren't tried, */
+    struct dt_call_result refused;   /* set: this says why, and nothing is waited for */
 };
 
 enum { DT_UDP_MAX_HEARD = 64 };
 
-/* Returns events of a service as dt_udp_next_event does, many at once: waits at most `wait_ms` ms for the first one,
- * sends and receives what is due, and puts what was made meanwhile on the wire. Of a driven node, and with `max_items`
+/* Returns events of a service as dt_udp_next_event does, many at once: makes calls, waits at most `wait_ms` ms for the
+ * first event, sends and receives what is due, and puts what was made meanwhile on the wire. Of a driven node, and with `max_items`
  * 0 of a driven service, it takes no events, and returns when something arrived or was due.
  *   DT_OK        `count` events, 0 if there was none in `wait_ms`, or a signal came
  *   DT_INVALID   of a node that isn't driven

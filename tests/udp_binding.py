@@ -53,8 +53,12 @@ def opened(node: int, port: int | None = None, **more: object) -> driver.Udp:
 
 
 def begun(calls: driver.Calls, flow: deltat.Flow, payload: bytes, timeout: float) -> None:
-    """Makes a call for whose end nobody waits."""
-    service._call(calls.udp, calls._desk, service._End(), flow, payload, timeout)
+    """Makes a call for whose end nobody waits. Raises why it wasn't made."""
+    end = service._End()
+    calls._desk.begin(calls.udp._driven, end, (flow, payload, timeout))
+    calls._desk.turn(calls.udp._driven, 0)
+    if end.why:
+        raise end.why
 
 
 def serve_without_watch(port: int) -> None:

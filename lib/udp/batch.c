@@ -37,6 +37,20 @@ static bool take(dt_udp *u, struct dt_udp_batch *b) {
     return false;
 }
 
+/* Makes the calls of the batch, up to the first one that is refused. Whether none is. */
+static bool make(dt_udp *u, struct dt_udp_batch *b) {
+    const uint8_t *octets = b->payloads;
+    for (; b->calls_made < b->call_count; b->calls_made++) {
+        const struct dt_udp_batch_call *it = &b->calls[b->calls_made];
+        struct dt_udp_call_options options = {
+            .size = sizeof options, .timeout_ms = it->timeout_ms, .flow = it->flow, .user = it->user};
+        b->refused = dt_udp_make_call(u, &options, octets, it->len);
+        if (b->refused.status != DT_OK) return false;
+        octets += it->len;
+    }
+    return true;
+}
+
 static void tell_heard(dt_udp *u, struct dt_udp_batch *b) {
     struct driven *d = &u->driven;
     if (b->heard && d->heard_count) memcpy(b->heard, d->heard, d->heard_count * sizeof *d->heard);
@@ -62,15 +76,17 @@ static void fill(dt_udp *u, uint64_t end, struct dt_udp_batch *b) {
 }
 
 dt_status dt_udp_next_batch(dt_udp *u, int wait_ms, struct dt_udp_batch *b) {
-    b->count = b->used = b->heard_count = 0;
+    b->count = b->used = b->heard_count = b->calls_made = 0;
     b->blocked = false;
     if (!dtu_is_usable(u)) {
+        b->refused = (struct dt_call_result){.status = u->failed};
         if (!u->is_copy) (void)take(u, b); /* (what waits in a forked child is the parent's) */
         return u->failed;
     }
     if (u->core.node && !u->core.driven) return DT_INVALID;
     u->interrupted = false;
     dtu_driven_begin(u);
+    if (!make(u, b)) wait_ms = 0;
     fill(u, wait_ms < 0 ? DT_NEVER : dtu_clock_ms() + (uint64_t)wait_ms, b);
     dtu_write_all(u);
     dtu_loop_arm(u);

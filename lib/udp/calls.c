@@ -159,7 +159,7 @@ struct dt_call_result dt_udp_make_call(dt_udp *u, const struct dt_udp_call_optio
     if (made.status == DT_OK) u->open_calls++;
     dtu_judge(u);
     dtu_govern_count(u, peer);
-    if (u->core.driven) (void)dtu_events_keep_up(u, at);
+    (void)dtu_events_keep_up(u, at);
     return made;
 }
 
@@ -180,7 +180,7 @@ struct dt_reply_result dt_udp_reply(dt_udp *u, const struct dt_token *token, con
     struct dt_reply_result replied = dtu_core_reply(&u->core, at, token, &payload);
     dtu_judge(u);
     dtu_govern_count(u, peer);
-    if (u->core.driven) (void)dtu_events_keep_up(u, at);
+    (void)dtu_events_keep_up(u, at);
     return replied;
 }
 

@@ -250,6 +250,17 @@ class Item(ctypes.Structure):
     ]
 
 
+class BatchCall(ctypes.Structure):
+    """A call of a batch. Its octets are behind those of the call before."""
+
+    _fields_ = [
+        ("flow", _c.Flow),
+        ("timeout_ms", ctypes.c_uint32),
+        ("len", ctypes.c_uint32),
+        ("user", ctypes.c_uint64),
+    ]
+
+
 class Batch(ctypes.Structure):
     """Zero the struct, and set the first four."""
 
@@ -263,6 +274,11 @@ class Batch(ctypes.Structure):
         ("heard", ctypes.POINTER(ctypes.c_uint32)),
         ("heard_count", ctypes.c_uint32),
         ("blocked", ctypes.c_bool),
+        ("calls", ctypes.POINTER(BatchCall)),
+        ("payloads", ctypes.c_void_p),
+        ("call_count", ctypes.c_uint32),
+        ("calls_made", ctypes.c_uint32),
+        ("refused", _c.CallResult),
     ]
 
 

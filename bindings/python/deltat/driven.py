@@ -27,11 +27,11 @@ if TYPE_CHECKING:
 MAX_ITEMS, ROOM = 1024, 262_144
 """How many events are taken at once, and of how many octets."""
 LONGEST_WAIT_MS = 1000
-# the structs `dt_udp_item`, `dt_token` and `dt_udp_call_options`: a flow's two nodes are before its two ports
-_ITEM, _TOKEN, _CALL = struct.Struct("=QIIIIHHBB2xQ"), struct.Struct("=QIIHH4x"), struct.Struct("=IIIIHH4xQ")
-assert (_ITEM.size, _TOKEN.size, _CALL.size) == tuple(
-    map(ctypes.sizeof, (_c_udp.Item, _c.Token, _c_udp.CallOptions))
-)
+# the structs `dt_udp_item`, `dt_token` and `dt_udp_batch_call`: a flow's two nodes are before its two ports
+_ITEM, _TOKEN, _CALL = struct.Struct("=QIIIIHHBB2xQ"), struct.Struct("=QIIHH4x"), struct.Struct("=IIHHII4xQ")
+assert [it.size for it in (_ITEM, _TOKEN, _CALL)] == [
+    ctypes.sizeof(it) for it in (_c_udp.Item, _c.Token, _c_udp.BatchCall)
+]
 
 
 def refuse(error: _c_udp.Error) -> NoReturn:
@@ -67,12 +67,27 @@ class Driver:
         self._waits, self._short = drivers()
         self._handle: int | None = handle
         self._ended, self._failures = (0, 0), failures
+        # of the call that the last turn didn't make: its user, its flow and why
+        self.refused: tuple[int, Flow, _c.CallResult] | None = None
         self.socket = socket.socket(fileno=self._short.dt_udp_socket(handle))
         room, items = ctypes.create_string_buffer(ROOM), (_c_udp.Item * MAX_ITEMS)()
-        self._heard, self._token, self._options = (ctypes.c_uint32 * _c_udp.MAX_HEARD)(), _c.Token(), _c_udp.CallOptions()
+        payloads, calls = ctypes.create_string_buffer(ROOM), (_c_udp.BatchCall * MAX_ITEMS)()
+        self._heard, self._token = (ctypes.c_uint32 * _c_udp.MAX_HEARD)(), _c.Token()
         self._octets_view, self._items_view = memoryview(room), memoryview(items).cast("B")
-        self._batch = _c_udp.Batch(items=items, octets=ctypes.addressof(room), size=ROOM, heard=self._heard)
-        self._call, self._reply = self._short.dt_udp_make_call, self._short.dt_udp_reply
+        # calls that are made at the next turn, and how many there are of them and of their octets
+        self._payloads_view, self._calls_view = (memoryview(it).cast("B") for it in (payloads, calls))
+        self._call_count = self._payloads_used = 0
+        self._batch = _c_udp.Batch(
+            items=items,
+            octets=ctypes.addressof(room),
+            size=ROOM,
+            heard=self._heard,
+            calls=calls,
+            payloads=ctypes.addressof(payloads),
+        )
+        # (the batch has only its address)
+        self._kept_payloads = payloads
+        self._reply = self._short.dt_udp_reply
         self._next, self._waits_next = self._short.dt_udp_next_batch, self._waits.dt_udp_next_batch
         self._counts = self._short.dt_udp_get_counts(self._handle).contents
         self._finalizer = weakref.finalize(self, _close, self._waits, handle, self.socket, kept)
@@ -116,11 +131,37 @@ class Driver:
         self._batch.max_items = MAX_ITEMS
 
     def turn(self, wait_ms: int = 0) -> int:
-        """Waits at most so many ms for something, receives what arrived, does what is due, and puts what leaves on the
-        wire. Returns a status, for `check`; `events` has the events that were taken."""
+        """Makes the calls that were begun, waits at most so many ms for something, receives what arrived, does what is
+        due, and puts what leaves on the wire. Returns a status, for `check`; `events` has the events that were taken.
+        If `refused` has a call then, the calls after it are made at the next turn."""
         next_batch = self._waits_next if wait_ms else self._next
-        status: int = next_batch(self._handle or self._open(), wait_ms, self._batch)
+        batch = self._batch
+        self.refused = None
+        if self._call_count:
+            batch.call_count = self._call_count
+            status: int = next_batch(self._handle or self._open(), wait_ms, batch)
+            self._made(batch.calls_made)
+        else:
+            batch.call_count = 0
+            status = next_batch(self._handle or self._open(), wait_ms, batch)
         return status
+
+    def _made(self, count: int) -> None:
+        """Takes the calls that were made out of those that were begun, and the one that was refused."""
+        if count == self._call_count:
+            self._call_count = self._payloads_used = 0
+            return
+        source, target, source_port, target_port, _, _, user = _CALL.unpack_from(self._calls_view, count * _CALL.size)
+        self.refused = user, Flow(source, source_port, target, target_port), self._batch.refused
+        octets = bytes(self._payloads_view[: self._payloads_used])
+        calls = bytes(self._calls_view[: self._call_count * _CALL.size])
+        self._call_count = self._payloads_used = 0
+        at = 0
+        for i, it in enumerate(_CALL.iter_unpack(calls)):
+            size = it[5]
+            if i > count:
+                self.begin(Flow(it[0], it[2], it[1], it[3]), octets[at : at + size], it[4], it[6])
+            at += size
 
     def events(self) -> tuple[Iterator[tuple[int, ...]], bytes]:
         """The events of the last turn, and their octets. Of each event: the call, the place of its octets and their
@@ -170,18 +211,27 @@ class Driver:
         turned: bool = self._short.dt_udp_flush_since(self._handle or self._open(), at)
         return turned
 
-    def call(self, flow: Flow, octets: bytes, timeout_ms: int, user: int) -> _c.CallResult:
-        """Makes a call whose end has `user`. Raises InvalidArgument if a number is out of range."""
+    def begin(self, flow: Flow, octets: bytes, timeout_ms: int, user: int) -> bool:
+        """Has a call made at the next turn, whose end has `user`. Returns whether there was room for it. Raises
+        InvalidArgument if a number is out of range, or it has more octets than any call; Forked or Stopped."""
+        if not self._handle:
+            self._open()
         source, source_port, target, target_port = flow
+        count, at, size = self._call_count, self._payloads_used, len(octets)
+        if size > _c.MAX_PAYLOAD:
+            raise InvalidArgument(f"a call on {flow} has {size} octets; at most cap - 8 fit")
+        if count == MAX_ITEMS or at + size > ROOM:
+            return False
         try:
             _CALL.pack_into(
-                self._options, 0, _CALL.size, timeout_ms, source, target, source_port, target_port, user
+                self._calls_view, count * _CALL.size, source, target, source_port, target_port, timeout_ms, size, user
             )
         except struct.error:
             flow_to_c(flow)  # (raises which one)
             raise InvalidArgument(f"a call on {flow}: timeout_ms is {timeout_ms}; it has 32 bits") from None
-        made: _c.CallResult = self._call(self._handle or self._open(), self._options, octets, len(octets))
-        return made
+        self._payloads_view[at : at + size] = octets
+        self._call_count, self._payloads_used = count + 1, at + size
+        return True
 
     def _put_token(self, flow: Flow, call: int) -> None:
         try:

@@ -48,9 +48,9 @@ from ._c import Cause, EventKind, InvalidReason, PortKind, Start, Status
 from ._c_udp import Alarm
 from ._c_udp import EventKind as Kind
 from ._library import library
-from .errors import Declined, Forked, Full, Gone, InvalidArgument, OutOfMemory, Stopped, Unsure
+from .errors import Declined, DeltatError, Forked, Full, Gone, InvalidArgument, OutOfMemory, Stopped, Unsure
 from .node import AnyNode, Exports
-from .driven import Driver
+from .driven import LONGEST_WAIT_MS, Driver
 from .udp import AnyAsyncUdp, AnyUdp
 from .values import Flow, Link, Params, flow_from_c, flow_to_c, in_range, octets_of
 
@@ -203,7 +203,7 @@ class Service(AnyNode):
             self._handle, self._noted(at), flow_to_c(flow), octets, len(octets), timeout_ms, user
         )
         if made.status != Status.OK:
-            _decline(self._raise, flow, made)
+            raise _declined(self._raise, flow, made)
         return int(made.call)
 
     def reply(self, token: Token, payload: bytes, at: int | None = None) -> None:
@@ -271,12 +271,12 @@ def _invalid(what: str, invalid: int) -> InvalidArgument:
     return InvalidArgument(f"{what}: {_INVALID[reason]}", reason=reason)
 
 
-def _decline(raises: Callable[[int], None], flow: Flow, made: _c.CallResult) -> NoReturn:
-    """Raises why a call wasn't made. `raises` does so for a status that is for good."""
+def _declined(raises: Callable[[int], None], flow: Flow, made: _c.CallResult) -> InvalidArgument | Declined:
+    """Returns why a call wasn't made. Raises it for a status that is for good, by `raises`."""
     if made.status == Status.INVALID:
-        raise _invalid(f"a call on {flow}", made.invalid)
+        return _invalid(f"a call on {flow}", made.invalid)
     raises(made.status)
-    raise Declined(Status(made.status), made.quiet_until, made.free)
+    return Declined(Status(made.status), made.quiet_until, made.free)
 
 
 def _refuse_reply(raises: Callable[[int], None], token: Token, it: _c.ReplyResult) -> NoReturn:
@@ -322,7 +322,7 @@ class _Ends(Protocol):
 
     def set_result(self, answer: bytes, /) -> None: ...
 
-    def set_exception(self, why: Unsure, /) -> None: ...
+    def set_exception(self, why: DeltatError, /) -> None: ...
 
 
 class _End:
@@ -332,7 +332,7 @@ class _End:
 
     def __init__(self) -> None:
         self.answer, self.is_over = b"", False
-        self.why: Unsure | None = None
+        self.why: DeltatError | None = None
 
     def done(self) -> bool:
         return self.is_over
@@ -340,7 +340,7 @@ class _End:
     def set_result(self, answer: bytes) -> None:
         self.answer, self.is_over = answer, True
 
-    def set_exception(self, why: Unsure) -> None:
+    def set_exception(self, why: DeltatError) -> None:
         self.why, self.is_over = why, True
 
 
@@ -391,14 +391,39 @@ class _Desk:
         """Returns the first request that waits in a line, or else one for a port that nobody serves."""
         return line.requests.popleft() if line.requests else self.others.popleft() if self.others else None
 
+    def begin(self, driven: Driver, end: _Ends, call: tuple[Flow, bytes, float]) -> int:
+        """Has a call made at the next turn, and returns its user. Raises InvalidArgument or TypeError."""
+        (flow, payload, timeout), user = call, next(self.users)
+        octets, timeout_ms = octets_of(payload), _ms(timeout)
+        while not driven.begin(flow, octets, timeout_ms, user):
+            self.turn(driven, 0)
+        self.ends[user] = end
+        return user
+
     def turn(self, driven: Driver, wait_ms: int) -> None:
         """Has the driver take a turn, and passes on the events that it took. Raises OutOfMemory or Stopped, after
         that."""
         status = driven.turn(wait_ms)
         if driven.count:
             self._pass_on(driven)
+        while driven.refused:
+            self._refuse(driven, driven.refused)
+            status = status or driven.turn()
+            if driven.count:
+                self._pass_on(driven)
         if status:
             driven.check(status)
+
+    def _refuse(self, driven: Driver, refused: tuple[int, Flow, _c.CallResult]) -> None:
+        """Ends a call that wasn't made."""
+        user, flow, made = refused
+        end = self.ends.pop(user, None)
+        try:
+            why: DeltatError = _declined(driven.check, flow, made)
+        except DeltatError as for_good:
+            why = for_good
+        if end is not None and not end.done():
+            end.set_exception(why)
 
     def _pass_on(self, driven: Driver) -> None:
         ends, (items, octets) = self.ends, driven.events()
@@ -474,10 +499,10 @@ class Calls:
         end, udp, desk = _End(), self.udp, self._desk
         udp._enter()
         with udp._lock:
-            user = _call(udp, desk, end, flow, payload, timeout)
+            user = desk.begin(udp._driven, end, (flow, payload, timeout))
         try:
             while not end.is_over:
-                udp._turn(None)
+                udp._turn_within(LONGEST_WAIT_MS)
         except (OutOfMemory, Stopped):
             if not end.is_over:
                 raise Unsure(Cause.STOPPED) from None
@@ -580,16 +605,6 @@ def _service_of(udp: AnyUdp) -> Service:
     return node
 
 
-def _call(udp: AnyUdp, desk: _Desk, end: _Ends, flow: Flow, payload: bytes, timeout: float) -> int:
-    """Makes a call for who waits for its end, and returns its user. Raises what `Service.call` raises."""
-    octets, user = octets_of(payload), next(desk.users)
-    made = udp._driven.call(flow, octets, _ms(timeout), user)
-    if made.status:
-        _decline(udp._driven.check, flow, made)
-    desk.ends[user] = end
-    return user
-
-
 def _reply(udp: AnyUdp, token: Token, payload: bytes) -> None:
     """Replies. Raises what `Service.reply` raises."""
     replied = udp._driven.reply(*token, octets_of(payload))
@@ -641,13 +656,8 @@ class AsyncCalls:
         if udp._failure:
             udp._check()
         end: asyncio.Future[bytes] = self._loop.create_future()
-        try:
-            _call(udp.udp, self._desk, end, flow, payload, timeout)
-        except OutOfMemory as why:
-            udp._fail(why)
-            raise
-        finally:
-            udp._soon()
+        self._desk.begin(udp.udp._driven, end, (flow, payload, timeout))
+        udp._soon()
         return await end
 
     async def reply(self, token: Token, payload: bytes) -> None:
