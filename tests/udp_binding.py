@@ -55,7 +55,7 @@ def opened(node: int, port: int | None = None, **more: object) -> driver.Udp:
 def begun(calls: driver.Calls, flow: deltat.Flow, payload: bytes, timeout: float) -> None:
     """Makes a call for whose end nobody waits. Raises why it wasn't made."""
     end = service._End()
-    calls._desk.begin(calls.udp._driven, end, (flow, payload, timeout))
+    calls._desk.begin(calls.udp._driven, end, flow, payload, timeout)
     calls._desk.turn(calls.udp._driven, 0)
     if end.why:
         raise end.why

@@ -11,7 +11,7 @@ import os
 import socket
 import struct
 import weakref
-from collections.abc import Iterator
+from collections.abc import Iterable
 from typing import TYPE_CHECKING, NoReturn
 
 from . import _c, _c_udp
@@ -32,6 +32,11 @@ _ITEM, _TOKEN, _CALL = struct.Struct("=QIIIIHHBB2xQ"), struct.Struct("=QIIHH4x")
 assert [it.size for it in (_ITEM, _TOKEN, _CALL)] == [
     ctypes.sizeof(it) for it in (_c_udp.Item, _c.Token, _c_udp.BatchCall)
 ]
+# of `dt_udp_batch`, from `count` on: count, used, heard_count, blocked, calls_made
+_RESULT = struct.Struct("=II8xI?3x20xI")
+_RESULT_AT = _c_udp.Batch.count.offset
+assert _RESULT_AT + _RESULT.size == _c_udp.Batch.calls_made.offset + 4
+assert _RESULT_AT + 16 == _c_udp.Batch.heard_count.offset and _RESULT_AT + 20 == _c_udp.Batch.blocked.offset
 
 
 def refuse(error: _c_udp.Error) -> NoReturn:
@@ -73,7 +78,7 @@ class Driver:
         room, items = ctypes.create_string_buffer(ROOM), (_c_udp.Item * MAX_ITEMS)()
         payloads, calls = ctypes.create_string_buffer(ROOM), (_c_udp.BatchCall * MAX_ITEMS)()
         self._heard, self._token = (ctypes.c_uint32 * _c_udp.MAX_HEARD)(), _c.Token()
-        self._octets_view, self._items_view = memoryview(room), memoryview(items).cast("B")
+        self._octets_view, self._items_view = (memoryview(it).cast("B") for it in (room, items))
         # calls that are made at the next turn, and how many there are of them and of their octets
         self._payloads_view, self._calls_view = (memoryview(it).cast("B") for it in (payloads, calls))
         self._call_count = self._payloads_used = 0
@@ -87,6 +92,11 @@ class Driver:
         )
         # (the batch has only its address)
         self._kept_payloads = payloads
+        self._batch_view, self._to_batch = memoryview(self._batch).cast("B"), ctypes.byref(self._batch)
+        self.count = self._used = self._heard_count = 0
+        """How many events the last turn took, of how many octets."""
+        self.was_blocked = False
+        """Whether the guard blocked a datagram at the last turn."""
         self._reply = self._short.dt_udp_reply
         self._next, self._waits_next = self._short.dt_udp_next_batch, self._waits.dt_udp_next_batch
         self._counts = self._short.dt_udp_get_counts(self._handle).contents
@@ -135,22 +145,20 @@ class Driver:
         due, and puts what leaves on the wire. Returns a status, for `check`; `events` has the events that were taken.
         If `refused` has a call then, the calls after it are made at the next turn."""
         next_batch = self._waits_next if wait_ms else self._next
-        batch = self._batch
+        self._batch.call_count = begun = self._call_count
+        status: int = next_batch(self._handle or self._open(), wait_ms, self._to_batch)
+        self.count, self._used, self._heard_count, self.was_blocked, made = _RESULT.unpack_from(
+            self._batch_view, _RESULT_AT
+        )
         self.refused = None
-        if self._call_count:
-            batch.call_count = self._call_count
-            status: int = next_batch(self._handle or self._open(), wait_ms, batch)
-            self._made(batch.calls_made)
+        if made == begun:
+            self._call_count = self._payloads_used = 0
         else:
-            batch.call_count = 0
-            status = next_batch(self._handle or self._open(), wait_ms, batch)
+            self._refuse(made)
         return status
 
-    def _made(self, count: int) -> None:
-        """Takes the calls that were made out of those that were begun, and the one that was refused."""
-        if count == self._call_count:
-            self._call_count = self._payloads_used = 0
-            return
+    def _refuse(self, count: int) -> None:
+        """Takes `count` calls that were made out of those that were begun, and the one after them, which was refused."""
         source, target, source_port, target_port, _, _, user = _CALL.unpack_from(self._calls_view, count * _CALL.size)
         self.refused = user, Flow(source, source_port, target, target_port), self._batch.refused
         octets = bytes(self._payloads_view[: self._payloads_used])
@@ -163,34 +171,23 @@ class Driver:
                 self.begin(Flow(it[0], it[2], it[1], it[3]), octets[at : at + size], it[4], it[6])
             at += size
 
-    def events(self) -> tuple[Iterator[tuple[int, ...]], bytes]:
-        """The events of the last turn, and their octets. Of each event: the call, the place of its octets and their
-        number, the flow's source, target and their ports, the kind, the cause and the user."""
-        batch = self._batch
-        return _ITEM.iter_unpack(self._items_view[: batch.count * _ITEM.size]), bytes(self._octets_view[: batch.used])
-
-    @property
-    def count(self) -> int:
-        """How many events the last turn took."""
-        count: int = self._batch.count
-        return count
+    def events(self) -> tuple[Iterable[tuple[int, ...]], memoryview]:
+        """The events of the last turn, and their octets until the next turn. Of each event: the call, the place of its
+        octets and their number, the flow's source, target and their ports, the kind, the cause and the user."""
+        if self.count == 1:
+            return (_ITEM.unpack_from(self._items_view),), self._octets_view
+        return _ITEM.iter_unpack(self._items_view[: self.count * _ITEM.size]), self._octets_view
 
     @property
     def has_brought(self) -> bool:
         """Whether the last turn took an event, or passed a datagram in."""
-        return bool(self._batch.count or self._batch.heard_count)
+        return bool(self.count or self._heard_count)
 
     @property
     def heard(self) -> list[int] | None:
         """The nodes of which datagrams were passed in at the last turn; None: too many to name."""
-        count = self._batch.heard_count
+        count = self._heard_count
         return None if count == _c_udp.MAX_HEARD else self._heard[:count]
-
-    @property
-    def was_blocked(self) -> bool:
-        """Whether the guard blocked a datagram at the last turn."""
-        blocked: bool = self._batch.blocked
-        return blocked
 
     def check(self, status: int) -> None:
         """Raises why the driver can't continue, if it can't."""

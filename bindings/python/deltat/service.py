@@ -50,7 +50,7 @@ from ._c_udp import EventKind as Kind
 from ._library import library
 from .errors import Declined, DeltatError, Forked, Full, Gone, InvalidArgument, OutOfMemory, Stopped, Unsure
 from .node import AnyNode, Exports
-from .driven import LONGEST_WAIT_MS, Driver
+from .driven import Driver
 from .udp import AnyAsyncUdp, AnyUdp
 from .values import Flow, Link, Params, flow_from_c, flow_to_c, in_range, octets_of
 
@@ -391,10 +391,9 @@ class _Desk:
         """Returns the first request that waits in a line, or else one for a port that nobody serves."""
         return line.requests.popleft() if line.requests else self.others.popleft() if self.others else None
 
-    def begin(self, driven: Driver, end: _Ends, call: tuple[Flow, bytes, float]) -> int:
+    def begin(self, driven: Driver, end: _Ends, flow: Flow, payload: bytes, timeout: float) -> int:
         """Has a call made at the next turn, and returns its user. Raises InvalidArgument or TypeError."""
-        (flow, payload, timeout), user = call, next(self.users)
-        octets, timeout_ms = octets_of(payload), _ms(timeout)
+        octets, timeout_ms, user = octets_of(payload), _ms(timeout), next(self.users)
         while not driven.begin(flow, octets, timeout_ms, user):
             self.turn(driven, 0)
         self.ends[user] = end
@@ -433,13 +432,13 @@ class _Desk:
                 if end is None or end.done():
                     continue
                 if kind == _ANSWERED:
-                    end.set_result(octets[at : at + size])
+                    end.set_result(bytes(octets[at : at + size]))
                 else:
                     end.set_exception(Unsure(Cause(cause)))
                 continue
             flow = _made(Flow, (source, source_port, target, target_port))
             if kind == _REQUEST:
-                self._ask(_made(Request, (_made(Token, (flow, call)), octets[at : at + size])))
+                self._ask(_made(Request, (_made(Token, (flow, call)), bytes(octets[at : at + size]))))
             elif kind == _UNCERTAIN:
                 self.uncertain.add(flow)
             elif kind == _TOO_BIG:
@@ -499,10 +498,10 @@ class Calls:
         end, udp, desk = _End(), self.udp, self._desk
         udp._enter()
         with udp._lock:
-            user = desk.begin(udp._driven, end, (flow, payload, timeout))
+            user = desk.begin(udp._driven, end, flow, payload, timeout)
         try:
             while not end.is_over:
-                udp._turn_within(LONGEST_WAIT_MS)
+                udp._turn_for_events()
         except (OutOfMemory, Stopped):
             if not end.is_over:
                 raise Unsure(Cause.STOPPED) from None
@@ -656,7 +655,7 @@ class AsyncCalls:
         if udp._failure:
             udp._check()
         end: asyncio.Future[bytes] = self._loop.create_future()
-        self._desk.begin(udp.udp._driven, end, (flow, payload, timeout))
+        self._desk.begin(udp.udp._driven, end, flow, payload, timeout)
         udp._soon()
         return await end
 

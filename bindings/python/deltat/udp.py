@@ -126,6 +126,15 @@ class AnyUdp:
             timeout = None if timeout is None else timeout - LONGEST_WAIT_MS / 1000
         self._turn_within(math.ceil(max(timeout, 0) * 1000))
 
+    def _turn_for_events(self) -> None:
+        """Waits until there is an event of the service, or something was due."""
+        if self._is_shared:
+            self._turn_within(LONGEST_WAIT_MS)
+            return
+        # (events that came in early wait in the driver, which returns them at once)
+        with self._lock:
+            self._work(LONGEST_WAIT_MS)
+
     def _turn_within(self, wait_ms: int) -> None:
         """The same, for as many ms as the driver waits by itself at most."""
         self._enter()
