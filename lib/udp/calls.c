@@ -122,11 +122,11 @@ void dtu_calls_close(dt_udp *u) {
 /* --- calls and replies */
 
 /* Whether the library would take such a call, so that it may wait: what is wrong is said at once. */
-static bool may_wait(const dt_udp *u, const struct dt_udp_call_options *o, size_t len) {
+static bool may_wait(const dt_udp *u, const struct dt_udp_call_options *o, size_t len, uint64_t at) {
     const struct dt_flow *flow = &o->flow;
     bool open = u->ports.open[flow->source_port / 8] >> flow->source_port % 8 & 1;
     return open && flow->source == u->options.node && flow->target != flow->source && o->timeout_ms > 0 &&
-           len + 8 <= u->options.params->cap && dtu_clock_ms() >= u->quiet_until;
+           len + 8 <= u->options.params->cap && at >= u->quiet_until;
 }
 
 /* Keeps a call until it may enter. */
@@ -154,7 +154,7 @@ struct dt_call_result dt_udp_make_call(dt_udp *u, const struct dt_udp_call_optio
     if (status != DT_OK) return (struct dt_call_result){.status = status};
     struct iovec payload = payload_of(octets, len);
     struct peer *peer = dtu_peers_find(&u->peers, o->flow.target);
-    if (may_wait(u, o, len) && dtu_govern_waits(u, peer, len)) return keep(u, peer, o, &payload);
+    if (may_wait(u, o, len, at) && dtu_govern_waits(u, peer, len)) return keep(u, peer, o, &payload);
     struct dt_call_result made = dtu_core_make_call(&u->core, at, o, &payload);
     if (made.status == DT_OK) u->open_calls++;
     dtu_judge(u);

@@ -223,8 +223,9 @@ const struct dt_udp_event *dt_udp_next_event(dt_udp *u, int wait_ms) {
     }
     uint64_t now = dtu_clock_ms(), end = wait_ms < 0 ? DT_NEVER : now + (uint64_t)wait_ms;
     u->interrupted = false;
-    for (bool looked = dtu_events_keep_up(u, now); !next_event(u) && !next_failure(u); looked = true) {
-        now = wait_ms > 0 ? dtu_clock_ms() : now;
+    bool looked = dtu_events_keep_up(u, now);
+    for (bool first = true; !next_event(u) && !next_failure(u); looked = true, first = false) {
+        if (wait_ms > 0 && !first) now = dtu_clock_ms();
         if (looked && !u->in.full && (u->interrupted || now >= end)) break;
         uint64_t left = end - now;
         dtu_loop_turn(u, u->in.full || now >= end ? 0 : left < INT32_MAX ? (int)left : -1);

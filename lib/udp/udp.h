@@ -16,7 +16,6 @@
  *   events.c    what dt_udp_next_event returns
  *   calls.c     what a program asks of the node
  *   objects.c   objects, in chunks over several flows
- *   octets.c    numbers in octets
  *   driven.c    nodes that the program opened: neighbours, hooks, the keeper
  *   batch.c     many events at once
  */
@@ -470,9 +469,16 @@ void dtu_objects_report(dt_udp *u, const struct dt_report *report);
 bool dtu_objects_message(dt_udp *u, const struct dt_flow *flow, const uint8_t *octets, size_t len);
 bool dtu_objects_event(dt_udp *u);
 
-/* --- octets.c */
-void dtu_put_number(uint8_t *at, uint64_t value, int octets);
-uint64_t dtu_get_number(const uint8_t *at, int octets);
+/* --- numbers in octets, the most significant one first; here, since each datagram has a dozen */
+static inline void dtu_put_number(uint8_t *at, uint64_t value, int octets) {
+    for (int i = octets - 1; i >= 0; i--, value >>= 8) at[i] = (uint8_t)value;
+}
+
+static inline uint64_t dtu_get_number(const uint8_t *at, int octets) {
+    uint64_t value = 0;
+    for (int i = 0; i < octets; i++) value = value << 8 | at[i];
+    return value;
+}
 
 /* --- clocks.c */
 uint64_t dtu_clock_ms(void);
