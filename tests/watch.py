@@ -40,7 +40,10 @@ HERE = TOP / "tests" / "watch"
 ARCHIVES = (TOP / "lib" / "libdeltat-udp.a", TOP / "lib" / "libdeltat.a")
 COMPILER = shutil.which("gcc") or shutil.which("clang") or ""
 FLAGS = ("-std=c11", "-D_GNU_SOURCE", "-O2", "-Wall", "-Wextra", "-Werror", f"-I{TOP / 'include'}")
-WRAPPED = "-Wl,--wrap=clock_gettime,--wrap=sendmmsg,--wrap=sendmsg"
+WRAPPED = "-Wl," + ",".join(
+    f"--wrap={it}"
+    for it in ("clock_gettime", "sendmmsg", "sendmsg", "dt_watch_hear", "dt_watch_around", "dt_service_receive")
+)
 WITHOUT_WATCH = 32
 # how often a run without the watch may pass before the case counts as one that shows nothing
 TRIES = 8

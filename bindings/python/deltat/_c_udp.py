@@ -63,6 +63,7 @@ class Alarm(enum.IntEnum):
 
     CLOCK = 1
     PARAMETERS = 2
+    WATCH = 3
 
 
 class Options(ctypes.Structure):
@@ -153,6 +154,7 @@ class Counts(ctypes.Structure):
         ("openings_proved", ctypes.c_uint64),
         ("pings_in", ctypes.c_uint64),
         ("pings_out", ctypes.c_uint64),
+        ("with_trailer", ctypes.c_uint64),
     ]
 
 
@@ -220,6 +222,8 @@ class Driven(ctypes.Structure):
         ("node", ctypes.c_void_p),
         ("service", ctypes.c_void_p),
         ("keeper", ctypes.POINTER(Keeper)),
+        ("links", ctypes.POINTER(_c.Link)),
+        ("link_count", ctypes.c_size_t),
         ("hooks", ctypes.POINTER(Hooks)),
     ]
 
@@ -250,6 +254,8 @@ class Batch(ctypes.Structure):
         ("heard", ctypes.POINTER(ctypes.c_uint32)),
         ("heard_count", ctypes.c_uint32),
         ("blocked", ctypes.c_bool),
+        ("alarm", ctypes.c_uint8),
+        ("alarm_peer", ctypes.c_uint32),
     ]
 
 

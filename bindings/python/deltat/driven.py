@@ -20,6 +20,7 @@ from ._library import drivers
 from .errors import InvalidArgument, OutOfMemory, StateError, Stopped, UdpError
 from .hooked import Hooked, is_hooked
 from .values import Flow, flow_to_c, params_of
+from .watch import Alarm
 
 if TYPE_CHECKING:
     from .node import AnyNode
@@ -59,7 +60,7 @@ def _numeric(address: tuple[str, int]) -> tuple[bytes, bytes]:
 class Driven:
     """The driver of a node, for one thread at a time."""
 
-    def __init__(self, node: AnyNode, bind: tuple[str, int]) -> None:
+    def __init__(self, node: AnyNode, bind: tuple[str, int], watch: bool) -> None:
         """Binds the socket. Raises UdpError if the system refuses it, InvalidArgument or OutOfMemory."""
         self._waits, self._short = drivers()
         self._node, self._failures, self._ended = node, list[BaseException](), (0, 0)
@@ -67,9 +68,12 @@ class Driven:
         options, given, error = _c.sized(_c_udp.Options), _c.sized(_c_udp.Driven), _c_udp.Error()
         options.node, options.host, options.port = node.number, host, port
         options.params = ctypes.pointer(params_of(node.params))
+        options.flags = 0 if watch else _c_udp.Flag.WITHOUT_WATCH
+        links = (_c.Link * max(len(node.links), 1))(*(_c.Link(it.charge, it.pace, it.number) for it in node.links))
+        given.links, given.link_count = links, len(node.links)
         setattr(given, node._DRIVEN_AS, node._handle)
         # (the driver has their addresses until it is closed)
-        self._kept: list[object] = [self._hooked(given) if is_hooked(node) else self._keeper(given)]
+        self._kept: list[object] = [self._hooked(given) if is_hooked(node) else self._keeper(given), links]
         handle: int | None = self._waits.dt_udp_drive(given, options, error)
         if not handle:
             refuse(error)
@@ -185,6 +189,11 @@ class Driven:
         """Whether the guard blocked a datagram at the last turn."""
         blocked: bool = self._batch.blocked
         return blocked
+
+    @property
+    def alarm(self) -> tuple[int, Alarm] | None:
+        """The neighbour of which the last turn had an alarm, and that."""
+        return (self._batch.alarm_peer, Alarm(self._batch.alarm)) if self._batch.alarm else None
 
     def check(self, status: int) -> None:
         """Raises why the driver can't continue, if it can't."""

@@ -44,6 +44,7 @@ from .driven import refuse
 from .errors import Declined, DeltatError, Full, InvalidArgument, OutOfMemory, Quiet, Stopped, UdpError, Unsure
 from .service import Request, Token, _gone, _invalid, _ms, _token
 from .values import Flow, Message, Params, flow_from_c, flow_to_c, in_range, octets_of, params_of
+from .watch import Alarm, Alarms
 
 __all__ = ["AsyncCalls", "Calls", "Udp", "UdpError"]
 
@@ -101,6 +102,8 @@ class Udp:
         self.node, self.params, error = node, params, _Error()
         self._handle: int | None = _waits.dt_udp_open(options, error)
         self._event: _Event | None = None
+        self.alarms = Alarms()
+        """Of each peer of which nothing passes, why: the watch found it."""
         if not self._handle:
             refuse(error)
 
@@ -150,6 +153,8 @@ class Udp:
             if event.system_error:
                 raise UdpError(event.system_error, os.strerror(event.system_error))
             _check(event.cause)
+        if event.kind == _Kind.ALARM:
+            self.alarms.ring(self.node, event.peer, Alarm(event.cause))
         return event
 
     def poll(self, timeout: float | None = 0.0) -> list[Message]:

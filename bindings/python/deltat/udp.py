@@ -26,6 +26,7 @@ from .driven import LONGEST_WAIT_MS, Driven
 from .errors import DeltatError, Forked, Full, InvalidArgument, OutOfMemory, Quiet, Stopped
 from .node import AnyNode, Node
 from .values import Flow, Message
+from .watch import Alarms
 
 RETRY = 50
 """After how many ms a loop of asyncio tries again whether a flow has room."""
@@ -61,8 +62,12 @@ class Udp:
 
     Unless the program called `node.set_guard`, the node receives at the ports that have a reader (at a service: those
     that have a kind), and on 1,024 flows at once, or 16 for each peer or each route if that is more. So strangers that
-    send from a peer's address don't make it grow. Nothing measures how old datagrams are (docs/watch.md): the links'
-    charges are the program's to choose."""
+    send from a peer's address don't make it grow.
+
+    How old each datagram is that arrives is measured (docs/watch.md), and what is too old is lost. Its neighbours need
+    that too: `deltat node`, devices and programs with loops of their own have no watch, so pass `watch=False` to speak
+    with them. Then the links' charges are the program's to choose, and what is under way for longer may be delivered
+    twice."""
 
     def __init__(
         self,
@@ -70,6 +75,8 @@ class Udp:
         bind: tuple[str, int],
         peers: Mapping[int, tuple[str, int]],
         routes: Mapping[int, int] | None = None,
+        *,
+        watch: bool = True,
     ) -> None:
         """Binds the socket. `routes` has the number of each neighbour's link; if it is left out, that is the link of
         the node's route to it, or the node's only link. Raises InvalidArgument if the node has no such link, or an
@@ -78,7 +85,9 @@ class Udp:
         links = {number: self._link_of(number, routes or {}) for number in peers}
         # (before there is a socket from which something could be passed in)
         node._guard_by_default(max(len(peers), 1))
-        self._driven = Driven(node, bind)
+        self._driven = Driven(node, bind, watch)
+        self.alarms = Alarms()
+        """Of each neighbour of which nothing passes, why: the watch found it."""
         try:
             for number, address in peers.items():
                 self._driven.set_neighbour(number, links[number], address)
@@ -229,6 +238,8 @@ class Udp:
             status = driven.turn(wait_ms)
             node._was_driven()
             driven.check(status)
+        if alarm := driven.alarm:
+            self.alarms.ring(node.number, *alarm)
         if not self._has_said and driven.was_blocked:
             self._has_said = True
             _log.warning(
@@ -323,10 +334,12 @@ class AsyncUdp:
         bind: tuple[str, int],
         peers: Mapping[int, tuple[str, int]],
         routes: Mapping[int, int] | None = None,
+        *,
+        watch: bool = True,
     ) -> None:
         """Binds the socket, and joins the running loop. Raises RuntimeError if no loop runs, and what `Udp` raises."""
         self._loop = asyncio.get_running_loop()
-        self.udp = Udp(node, bind, peers, routes)
+        self.udp = Udp(node, bind, peers, routes, watch=watch)
         self._receivers: deque[asyncio.Future[None]] = deque()
         # by the flow's target, and by flow
         self._lines: dict[int, dict[Flow, _Line]] = {}
