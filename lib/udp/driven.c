@@ -131,13 +131,8 @@ static void note_heard(struct driven *d, uint32_t maker) {
     if (!again && d->heard_count < DT_UDP_MAX_HEARD) d->heard[d->heard_count++] = maker;
 }
 
-/* A datagram came: if it did from a neighbour, and its age is known, it is passed in. */
-void dtu_driven_receive(dt_udp *u, struct arrival *it) {
-    struct peer *peer = dtu_driven_neighbour(u, it->from);
-    if (peer == NULL) {
-        u->counts.unknown++;
-        return;
-    }
+/* A datagram of a neighbour came: if its age is known, it is passed in. */
+void dtu_driven_receive(dt_udp *u, struct peer *peer, struct arrival *it) {
     it->hop = peer->node;
     it->charge = peer->charge;
     if (dtu_watch_is_bare(u, it)) dtu_watch_bare(u, peer, it);

@@ -122,35 +122,43 @@ void dtu_take_frame(dt_udp *u, struct peer *peer, const struct arrival *it) {
     dtu_strangers_heard(u, peer);
 }
 
-/* Takes a datagram of a node that its program opened. */
-static void receive_driven(dt_udp *u, struct arrival *it) {
-    bool bare = dtu_watch_is_bare(u, it);
-    if (!bare && dtu_is_control(u, it)) return;
-    it->maker = bare || it->len < HEADER ? 0 : (uint32_t)dtu_get_number(it->octets + MADE_BY, MAKER_LEN);
-    dtu_driven_receive(u, it);
+/* The node that a frame's header names as its maker; 0: it has no header. */
+static uint32_t maker_of(const struct arrival *it) {
+    return it->len < HEADER ? 0 : (uint32_t)dtu_get_number(it->octets + MADE_BY, MAKER_LEN);
 }
 
-/* Whether a datagram can be read on: its trailer was taken off where there has to be one. One of the two ends may have a
- * watch and the other none: that is an alarm, once for each peer. */
-static bool reads(dt_udp *u, struct arrival *it) {
-    bool odd = u->watching.on ? !dtu_watch_strip(u, it) : dtu_watch_has_trailer(it);
-    if (!odd) return true;
+/* Whether a datagram has what belongs behind it: a trailer, or none. If a peer has a watch and this end hasn't, or the
+ * other way round, that is an alarm, once for each peer. */
+static bool is_fit(dt_udp *u, struct arrival *it) {
+    if (u->watching.on ? dtu_watch_strip(u, it) : !dtu_watch_has_trailer(it)) return true;
     if (!u->watching.on) u->counts.with_trailer++;
-    if (it->len < HEADER) return false;
-    struct peer *peer = u->core.driven ? dtu_driven_neighbour(u, it->from)
-                                       : dtu_peers_find(&u->peers, (uint32_t)dtu_get_number(it->octets + MADE_BY, MAKER_LEN));
+    struct peer *peer = u->core.driven ? dtu_driven_neighbour(u, it->from) : dtu_peers_find(&u->peers, maker_of(it));
     if (peer && dtu_same_address(&peer->at, it->from)) dtu_watch_differs(u, peer);
     return false;
+}
+
+/* Takes a datagram of a node that its program opened: it has to come from a neighbour. */
+static void receive_driven(dt_udp *u, struct arrival *it) {
+    struct peer *peer = dtu_driven_neighbour(u, it->from);
+    if (peer == NULL) {
+        u->counts.unknown++;
+        return;
+    }
+    if (!is_fit(u, it)) return;
+    bool bare = dtu_watch_is_bare(u, it);
+    if (!bare && dtu_is_control(u, it)) return;
+    it->maker = bare ? 0 : maker_of(it);
+    dtu_driven_receive(u, peer, it);
 }
 
 /* Takes a datagram: one of the drivers' own, or a frame that came from its maker's address. */
 static void receive(dt_udp *u, struct arrival *it) {
     u->counts.datagrams_in++;
-    if (!reads(u, it)) return;
     if (u->core.driven) {
         receive_driven(u, it);
         return;
     }
+    if (!is_fit(u, it)) return;
     bool bare = dtu_watch_is_bare(u, it);
     if (!bare && dtu_is_control(u, it)) return;
     if (it->len < (bare ? MAKER_LEN : HEADER)) {

@@ -559,7 +559,7 @@ void dtu_write_held(dt_udp *u, const struct peer *peer);
 void dtu_driven_close(dt_udp *u);
 void dtu_driven_begin(dt_udp *u);
 bool dtu_driven_note(dt_udp *u, uint64_t at);
-void dtu_driven_receive(dt_udp *u, struct arrival *arrival);
+void dtu_driven_receive(dt_udp *u, struct peer *peer, struct arrival *arrival);
 void dtu_driven_take(dt_udp *u, struct peer *peer, const struct arrival *arrival);
 struct peer *dtu_driven_neighbour(const dt_udp *u, const struct address *at);
 void dtu_driven_drained(dt_udp *u);

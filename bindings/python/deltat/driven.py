@@ -191,6 +191,11 @@ class Driven:
         return blocked
 
     @property
+    def counts(self) -> dict[str, int]:
+        """The driver's counters, by their names in deltat_udp.h; empty once it is closed."""
+        return {name: getattr(self._counts, name) for name, _ in self._counts._fields_} if self._handle else {}
+
+    @property
     def alarm(self) -> tuple[int, Alarm] | None:
         """The neighbour of which the last turn had an alarm, and that."""
         return (self._batch.alarm_peer, Alarm(self._batch.alarm)) if self._batch.alarm else None

@@ -208,6 +208,12 @@ class Udp:
         return int(_library.dt_udp_local_port(self._open()))
 
     @property
+    def counts(self) -> dict[str, int]:
+        """The counters of the socket and of the watch, by their names in include/deltat_udp.h."""
+        it = _library.dt_udp_get_counts(self._open()).contents
+        return {name: getattr(it, name) for name, _ in it._fields_}
+
+    @property
     def life(self) -> int:
         """The life of this opening."""
         return int(_library.dt_udp_life(self._open()))

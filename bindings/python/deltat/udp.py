@@ -116,6 +116,12 @@ class Udp:
         """How many datagrams arrived from no peer."""
         return self._driven.unknown
 
+    @property
+    def counts(self) -> dict[str, int]:
+        """The counters of the socket and of the watch, by their names in include/deltat_udp.h; empty once it is
+        closed."""
+        return self._driven.counts
+
     def _link_of(self, peer: int, routes: Mapping[int, int]) -> int:
         """Returns the link of a neighbour."""
         own = {it.number for it in self.node.links}
