@@ -27,7 +27,6 @@ if not all((TOP / "lib" / it).exists() for it in ("libdeltat.so.2", "libdeltat-u
 sys.path.insert(0, str(TOP / "bindings" / "python"))
 
 import deltat  # noqa: E402
-from deltat._c_udp import Flag  # noqa: E402
 from deltat import Cause, Declined, Gone, PortKind, Request, Start, Status, Token, Unsure, driver, service  # noqa: E402
 
 PARAMS = deltat.Params(mpl=482, r=3000, a=5, rto=90, probe=180, seg=1442, cap=65536, rcap=65536, window=65536)
@@ -59,11 +58,6 @@ def begun(calls: driver.Calls, flow: deltat.Flow, payload: bytes, timeout: float
     calls._desk.turn(calls.udp._driven, 0)
     if end.why:
         raise end.why
-
-
-def serve_without_watch(port: int) -> None:
-    """As `serve`, for clients whose program opened their node: they have no watch."""
-    serve(port, Flag.WITHOUT_WATCH)
 
 
 def serve(port: int, flags: int = 0) -> None:
@@ -279,7 +273,7 @@ def neighbours() -> str:
             it.bind((HOST, 0))
             it.settimeout(5)
         node = node_of(1, [7, 8, 9], {2: 7, 3: 7, 4: 8, 5: 8, 6: 9})
-        udp = ends.enter_context(deltat.Udp(node, (HOST, 0), {2: near.getsockname(), 4: far.getsockname()}))
+        udp = ends.enter_context(deltat.Udp(node, (HOST, 0), {2: near.getsockname(), 4: far.getsockname()}, watch=False))
         for target, end in ((2, near), (3, near), (4, far), (5, far)):
             udp.send(deltat.Flow(1, 10, target, 20), b"to %d" % target)
             octets = end.recv(2000)
@@ -316,7 +310,7 @@ def idle() -> str:
 def unlisted() -> str:
     """A client by `deltat.Udp` that its service doesn't list answers the challenge, and is answered; its state folder
     has what the driver passed in."""
-    with serving(serve_without_watch) as port, tempfile.TemporaryDirectory() as folder:
+    with serving(serve) as port, tempfile.TemporaryDirectory() as folder:
         number, lives = deltat.fresh_number(), []
         for _ in range(2):
             with deltat.State(folder, number, PARAMS) as state:

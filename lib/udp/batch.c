@@ -58,6 +58,10 @@ static void tell_heard(dt_udp *u, struct dt_udp_batch *b) {
     b->blocked = d->blocked;
     d->heard_count = 0;
     d->blocked = false;
+    struct watch_alarm alarm = {0, 0};
+    (void)dtu_watch_alarm(u, &alarm);
+    b->alarm_peer = alarm.node;
+    b->alarm = alarm.cause;
 }
 
 /* Looks at the socket and takes events, until there are some and the socket is empty, or the time is over. */
@@ -76,8 +80,9 @@ static void fill(dt_udp *u, uint64_t end, struct dt_udp_batch *b) {
 }
 
 dt_status dt_udp_next_batch(dt_udp *u, int wait_ms, struct dt_udp_batch *b) {
-    b->count = b->used = b->heard_count = b->calls_made = 0;
+    b->count = b->used = b->heard_count = b->calls_made = b->alarm_peer = 0;
     b->blocked = false;
+    b->alarm = 0;
     if (!dtu_is_usable(u)) {
         b->refused = (struct dt_call_result){.status = u->failed};
         if (!u->is_copy) (void)take(u, b); /* (what waits in a forked child is the parent's) */

@@ -183,15 +183,15 @@ static bool next_of_governor(dt_udp *u) {
     return true;
 }
 
-/* Makes the next thing that happened the event; the octets of a service's are in the room, of DT_MAX_PAYLOAD octets.
- * False: nothing happened. */
+/* Makes the next thing that happened the event, but for alarms; the octets of a service's are in the room, of
+ * DT_MAX_PAYLOAD octets. False: nothing happened. */
 bool dtu_events_next(dt_udp *u, uint8_t *room) {
     memset(&u->event, 0, sizeof u->event);
-    return next_too_big(u) || dtu_watch_event(u) || next_of_governor(u) || next_report(u) || dtu_objects_event(u) ||
+    return next_too_big(u) || next_of_governor(u) || next_report(u) || dtu_objects_event(u) ||
            (u->core.service ? next_of_service(u, room) : next_message(u));
 }
 
-static bool next_event(dt_udp *u) { return dtu_events_next(u, u->event_room); }
+static bool next_event(dt_udp *u) { return dtu_watch_event(u) || dtu_events_next(u, u->event_room); }
 
 static bool next_failure(dt_udp *u) {
     if (u->failed == 0) return false;

@@ -63,6 +63,7 @@ class Alarm(enum.IntEnum):
 
     CLOCK = 1
     PARAMETERS = 2
+    WATCH = 3
 
 
 class Options(ctypes.Structure):
@@ -154,6 +155,7 @@ class Counts(ctypes.Structure):
         ("openings_proved", ctypes.c_uint64),
         ("pings_in", ctypes.c_uint64),
         ("pings_out", ctypes.c_uint64),
+        ("with_trailer", ctypes.c_uint64),
     ]
 
 
@@ -232,6 +234,8 @@ class Driven(ctypes.Structure):
         ("node", ctypes.c_void_p),
         ("service", ctypes.c_void_p),
         ("keeper", ctypes.POINTER(Keeper)),
+        ("links", ctypes.POINTER(_c.Link)),
+        ("link_count", ctypes.c_size_t),
         ("hooks", ctypes.POINTER(Hooks)),
     ]
 
@@ -274,6 +278,8 @@ class Batch(ctypes.Structure):
         ("heard", ctypes.POINTER(ctypes.c_uint32)),
         ("heard_count", ctypes.c_uint32),
         ("blocked", ctypes.c_bool),
+        ("alarm", ctypes.c_uint8),
+        ("alarm_peer", ctypes.c_uint32),
         ("calls", ctypes.POINTER(BatchCall)),
         ("payloads", ctypes.c_void_p),
         ("call_count", ctypes.c_uint32),
@@ -284,6 +290,14 @@ class Batch(ctypes.Structure):
 
 # Each function: its result, and its arguments.
 FUNCTIONS: dict[str, tuple[Any, list[Any]]] = {
+    "dt_udp_params_for": (
+        ctypes.c_uint8,
+        [
+            ctypes.POINTER(_c.Network),
+            ctypes.POINTER(_c.Params),
+            ctypes.POINTER(ctypes.c_uint32),
+        ],
+    ),
     "dt_udp_abi_version": (ctypes.c_uint32, []),
     "dt_udp_fresh_number": (ctypes.c_uint32, []),
     "dt_udp_open": (ctypes.c_void_p, [ctypes.POINTER(Options), ctypes.POINTER(Error)]),

@@ -20,6 +20,7 @@ from ._library import drivers
 from .errors import InvalidArgument, OutOfMemory, StateError, Stopped, UdpError
 from .hooked import Hooked, is_hooked
 from .values import Flow, flow_to_c, params_of
+from .watch import Alarm
 
 if TYPE_CHECKING:
     from .node import AnyNode
@@ -32,11 +33,15 @@ _ITEM, _TOKEN, _CALL = struct.Struct("=QIIIIHHBB2xQ"), struct.Struct("=QIIHH4x")
 assert [it.size for it in (_ITEM, _TOKEN, _CALL)] == [
     ctypes.sizeof(it) for it in (_c_udp.Item, _c.Token, _c_udp.BatchCall)
 ]
-# of `dt_udp_batch`, from `count` on: count, used, heard_count, blocked, calls_made
-_RESULT = struct.Struct("=II8xI?3x20xI")
+# of `dt_udp_batch`, from `count` on: count, used, heard_count, blocked, alarm, alarm_peer, calls_made
+_RESULT = struct.Struct("=II8xI?B2xI24xI")
 _RESULT_AT = _c_udp.Batch.count.offset
-assert _RESULT_AT + _RESULT.size == _c_udp.Batch.calls_made.offset + 4
-assert _RESULT_AT + 16 == _c_udp.Batch.heard_count.offset and _RESULT_AT + 20 == _c_udp.Batch.blocked.offset
+assert [getattr(_c_udp.Batch, it).offset - _RESULT_AT for it in ("heard_count", "blocked", "alarm_peer", "calls_made")] == [
+    16,
+    20,
+    24,
+    _RESULT.size - 4,
+]
 
 
 def refuse(error: _c_udp.Error) -> NoReturn:
@@ -97,6 +102,8 @@ class Driver:
         """How many events the last turn took, of how many octets."""
         self.was_blocked = False
         """Whether the guard blocked a datagram at the last turn."""
+        self.alarm = self.alarm_peer = 0
+        """What the watch found at the last turn, a `deltat.Alarm` or 0, and of which peer."""
         self._reply = self._short.dt_udp_reply
         self._next, self._waits_next = self._short.dt_udp_next_batch, self._waits.dt_udp_next_batch
         self._counts = self._short.dt_udp_get_counts(self._handle).contents
@@ -147,9 +154,8 @@ class Driver:
         next_batch = self._waits_next if wait_ms else self._next
         self._batch.call_count = begun = self._call_count
         status: int = next_batch(self._handle or self._open(), wait_ms, self._to_batch)
-        self.count, self._used, self._heard_count, self.was_blocked, made = _RESULT.unpack_from(
-            self._batch_view, _RESULT_AT
-        )
+        found = _RESULT.unpack_from(self._batch_view, _RESULT_AT)
+        self.count, self._used, self._heard_count, self.was_blocked, self.alarm, self.alarm_peer, made = found
         self.refused = None
         if made == begun:
             self._call_count = self._payloads_used = 0
@@ -188,6 +194,11 @@ class Driver:
         """The nodes of which datagrams were passed in at the last turn; None: too many to name."""
         count = self._heard_count
         return None if count == _c_udp.MAX_HEARD else self._heard[:count]
+
+    @property
+    def counts(self) -> dict[str, int]:
+        """The driver's counters, by their names in deltat_udp.h; empty once it is closed."""
+        return {name: getattr(self._counts, name) for name, _ in self._counts._fields_} if self._handle else {}
 
     def check(self, status: int) -> None:
         """Raises why the driver can't continue, if it can't."""
@@ -258,16 +269,19 @@ class Driver:
 class Driven(Driver):
     """The driver of a node that the program opened."""
 
-    def __init__(self, node: AnyNode, bind: tuple[str, int]) -> None:
+    def __init__(self, node: AnyNode, bind: tuple[str, int], watch: bool) -> None:
         """Binds the socket. Raises UdpError if the system refuses it, InvalidArgument or OutOfMemory."""
         self._node, failures = node, list[BaseException]()
         host, port = _numeric(bind)
         options, given, error = _c.sized(_c_udp.Options), _c.sized(_c_udp.Driven), _c_udp.Error()
         options.node, options.host, options.port = node.number, host, port
         options.params = ctypes.pointer(params_of(node.params))
+        options.flags = 0 if watch else _c_udp.Flag.WITHOUT_WATCH
+        links = (_c.Link * max(len(node.links), 1))(*(_c.Link(it.charge, it.pace, it.number) for it in node.links))
+        given.links, given.link_count = links, len(node.links)
         setattr(given, node._DRIVEN_AS, node._handle)
         # (the driver has their addresses until it is closed)
-        kept = [_hooked(node, given, failures) if is_hooked(node) else _kept(node, given, failures)]
+        kept = [_hooked(node, given, failures) if is_hooked(node) else _kept(node, given, failures), links]
         handle: int | None = drivers().waits.dt_udp_drive(given, options, error)
         if not handle:
             refuse(error)

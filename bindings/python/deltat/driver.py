@@ -42,6 +42,7 @@ from .errors import Full, InvalidArgument, Quiet, UdpError
 from .service import Calls
 from .udp import AnyAsyncUdp, AnyUdp, Desk
 from .values import Flow, Message, Params, flow_from_c, flow_to_c, in_range, octets_of, params_of
+from .watch import Alarm
 
 __all__ = ["AsyncCalls", "Calls", "Udp", "UdpError"]
 
@@ -124,6 +125,8 @@ class Udp(AnyUdp):
         event: _c_udp.Event = library.dt_udp_next_event(driven._open(), wait_ms).contents
         if event.kind == _Kind.FAILED:
             driven.check(event.cause)
+        if event.kind == _Kind.ALARM:
+            self.alarms.ring(self.node, event.peer, Alarm(event.cause))
         return event
 
     def poll(self, timeout: float | None = 0.0) -> list[Message]:

@@ -45,7 +45,6 @@ from typing import TYPE_CHECKING, NamedTuple, NoReturn, Protocol, TypeGuard
 
 from . import _c, clock
 from ._c import Cause, EventKind, InvalidReason, PortKind, Start, Status
-from ._c_udp import Alarm
 from ._c_udp import EventKind as Kind
 from ._library import library
 from .errors import Declined, DeltatError, Forked, Full, Gone, InvalidArgument, OutOfMemory, Stopped, Unsure
@@ -346,11 +345,7 @@ class _End:
 
 _made = tuple.__new__
 _ANSWERED, _REQUEST, _UNSURE = int(Kind.ANSWERED), int(Kind.REQUEST), int(Kind.UNSURE)
-_UNCERTAIN, _TOO_BIG, _ALARM = int(Kind.REPLY_UNCERTAIN), int(Kind.TOO_BIG), int(Kind.ALARM)
-_ALARMS = {
-    Alarm.CLOCK: "a clock stood, was set or is wrong; close the driver of the end whose clock it was, and open it again",
-    Alarm.PARAMETERS: "it has other parameters; give all nodes the same",
-}
+_UNCERTAIN, _TOO_BIG = int(Kind.REPLY_UNCERTAIN), int(Kind.TOO_BIG)
 
 
 class _Desk:
@@ -443,8 +438,6 @@ class _Desk:
                 self.uncertain.add(flow)
             elif kind == _TOO_BIG:
                 _log.warning("a datagram of %d octets to node %d doesn't fit the path; make seg smaller", size, target)
-            elif kind == _ALARM:
-                _log.error("nothing of node %d passes any more: %s", target, _ALARMS[Alarm(cause)])
 
     def _ask(self, request: Request) -> None:
         """Puts a request into the line of its port."""

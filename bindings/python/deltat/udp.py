@@ -26,6 +26,7 @@ from .driven import LONGEST_WAIT_MS, Driven, Driver
 from .errors import DeltatError, Forked, Full, InvalidArgument, OutOfMemory, Quiet, Stopped
 from .node import AnyNode, Node
 from .values import Flow, Message
+from .watch import Alarm, Alarms
 
 RETRY = 50
 """After how many ms a loop of asyncio tries again whether a flow has room."""
@@ -60,6 +61,8 @@ class AnyUdp:
 
     def __init__(self, driven: Driver, number: int) -> None:
         self._driven, self._number = driven, number
+        self.alarms = Alarms()
+        """Of each peer of which nothing passes, why: the watch found it."""
         self._desk: Desk | None = None
         self._was_early = False
         self._lock = threading.RLock()
@@ -79,6 +82,12 @@ class AnyUdp:
     def strangers(self) -> int:
         """How many datagrams arrived from no peer."""
         return self._driven.unknown
+
+    @property
+    def counts(self) -> dict[str, int]:
+        """The counters of the socket and of the watch, by their names in include/deltat_udp.h; empty once it is
+        closed."""
+        return self._driven.counts
 
     @property
     def is_closed(self) -> bool:
@@ -166,6 +175,12 @@ class AnyUdp:
             self._desk.turn(self._driven, wait_ms)
         else:
             self._driven.check(self._driven.turn(wait_ms))
+        if self._driven.alarm:
+            self._ring()
+
+    def _ring(self) -> None:
+        """Keeps an alarm of the watch."""
+        self.alarms.ring(self._number, self._driven.alarm_peer, Alarm(self._driven.alarm))
 
     def _calls_desk(self) -> Desk:
         """The desk of the service's events, which are taken by it from now on. Raises InvalidArgument if there is no
@@ -223,8 +238,12 @@ class Udp(AnyUdp):
 
     Unless the program called `node.set_guard`, the node receives at the ports that have a reader (at a service: those
     that have a kind), and on 1,024 flows at once, or 16 for each peer or each route if that is more. So strangers that
-    send from a peer's address don't make it grow. Nothing measures how old datagrams are (docs/watch.md): the links'
-    charges are the program's to choose."""
+    send from a peer's address don't make it grow.
+
+    How old each datagram is that arrives is measured (docs/watch.md), and what is too old is lost. Its neighbours need
+    that too: `deltat node`, devices and programs with loops of their own have no watch, so pass `watch=False` to speak
+    with them. Then the links' charges are the program's to choose, and what is under way for longer may be delivered
+    twice."""
 
     _driven: Driven
 
@@ -234,6 +253,8 @@ class Udp(AnyUdp):
         bind: tuple[str, int],
         peers: Mapping[int, tuple[str, int]],
         routes: Mapping[int, int] | None = None,
+        *,
+        watch: bool = True,
     ) -> None:
         """Binds the socket. `routes` has the number of each neighbour's link; if it is left out, that is the link of
         the node's route to it, or the node's only link. Raises InvalidArgument if the node has no such link, or an
@@ -242,7 +263,7 @@ class Udp(AnyUdp):
         links = {number: self._link_of(number, routes or {}) for number in peers}
         # (before there is a socket from which something could be passed in)
         node._guard_by_default(max(len(peers), 1))
-        driven = Driven(node, bind)
+        driven = Driven(node, bind, watch)
         try:
             for number, address in peers.items():
                 driven.set_neighbour(number, links[number], address)
@@ -318,6 +339,8 @@ class Udp(AnyUdp):
             status = driven.turn(wait_ms)
             node._was_driven()
             driven.check(status)
+        if driven.alarm:
+            self._ring()
         if not self._has_said and driven.was_blocked:
             self._has_said = True
             _log.warning(
@@ -496,10 +519,12 @@ class AsyncUdp(AnyAsyncUdp):
         bind: tuple[str, int],
         peers: Mapping[int, tuple[str, int]],
         routes: Mapping[int, int] | None = None,
+        *,
+        watch: bool = True,
     ) -> None:
         """Binds the socket, and joins the running loop. Raises RuntimeError if no loop runs, and what `Udp` raises."""
         asyncio.get_running_loop()
-        super().__init__(Udp(node, bind, peers, routes))
+        super().__init__(Udp(node, bind, peers, routes, watch=watch))
 
     async def __aenter__(self) -> Self:
         return self
