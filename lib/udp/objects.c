@@ -24,7 +24,7 @@ enum {
     LEAST_CHUNK = 16,  /* so that the bits of an object are few */
     ASK_MS = 100,      /* a question is asked again after this, and 4 rto, at least */
     IDLE_MS = 60000,   /* a part of an object to which nothing was added for so long is dropped */
-    FEWEST_LONG = 8,   /* chunks of a long object */
+    FEWEST_LONG = 64,  /* chunks of a long object */
     MAX_FLIGHT = 64    /* chunks under way in one lane */
 };
 
