@@ -1,13 +1,16 @@
 #!/usr/bin/env python3
-"""The driver over UDP, libdeltat-udp, beside plain UDP and ENet on loopback.
+"""The driver over UDP, libdeltat-udp, beside plain UDP, ENet and TCP.
 
-`bench/driver.py [--runs N] [--seconds S] [--only NAME ..]`; it wants `make -C lib`. The programs are those of bench/peers
+`bench/driver.py [--runs N] [--seconds S] [--only NAME ..] [--links DELAY:LOSS ..]`; it wants `make -C lib`. The programs are those of bench/peers
 (peer.h says what is asked), one process at each end with one thread each. The peers take turns, N runs (5) each:
 
 - answers: requests of 100 octets, answered by 100 octets, for S seconds (2), with 1, 32, 1,000 or 4,000 under way: how many
   a second, and the microseconds of processor that one takes at both ends;
 - 64 KiB: messages of 65,524 octets, one after another: how many a second;
-- calls from Python by deltat.Calls, one after another, and by AsyncCalls 32 and 1,000 at once, to a service in C.
+- calls from Python by deltat.Calls, one after another, and by AsyncCalls 32 and 1,000 at once, to a service in C;
+- with --links (`--links 20:0 20:1 20:5`), over tests/wan.py with so many ms each way and so many of 100 packets lost:
+  objects of 64 KiB and of 16 MiB over 64 lanes from a node that the other one doesn't know, three one after another,
+  and as many octets over one connection of TCP: the seconds of the first one and of the best one after it.
 
 `same` is UDP with the very datagrams that two nodes exchange, acknowledgements too. The best run counts, since others may
 load the machine; the load is printed. A peer that can't be built here is left out. Ends with 2 where the library isn't there."""
@@ -29,8 +32,9 @@ from lib import HOST, free_port  # noqa: E402
 
 C = ["cc", "-O2", "-Wall", "-Wextra", "-Werror"]
 LIBRARIES = [f"-I{TOP / 'include'}", str(TOP / "lib" / "libdeltat-udp.a"), str(TOP / "lib" / "libdeltat.a")]
-PROGRAMS = {"udp": [], "same": [], "enet": ["-lenet"], "driver": LIBRARIES}
+PROGRAMS = {"udp": [], "same": [], "tcp": [], "enet": ["-lenet"], "driver": LIBRARIES}
 MESSAGES, LARGE = 50, 65_524
+SIZES, LANES, TIMES = (65_536, 16_777_216), 64, 3
 
 
 class Peer(NamedTuple):
@@ -108,9 +112,10 @@ print(rate, 1e6 * (time.process_time() - begun) / (rate * seconds))
 def built(folder: pathlib.Path) -> set[str]:
     """The programs that can be built here."""
     found = set()
-    for name, more in PROGRAMS.items():
+    sources = {name: HERE / "peers" / f"{name}.c" for name in PROGRAMS}
+    for name, more in {**PROGRAMS, "objects": ["-D_GNU_SOURCE", *LIBRARIES]}.items():
         ran = subprocess.run(
-            [*C, str(HERE / "peers" / f"{name}.c"), "-o", str(folder / name), *more],
+            [*C, str(sources.get(name, TOP / "tests" / "udp" / f"{name}.c")), "-o", str(folder / name), *more],
             capture_output=True,
             text=True,
             check=False,
@@ -171,6 +176,45 @@ def from_python(folder: pathlib.Path, many: int, seconds: float) -> tuple[float,
     return rate, processor
 
 
+def over_link(folder: pathlib.Path, link: str, octets: int) -> dict[str, list[float]]:
+    """The seconds of each transfer over a link, by objects and by TCP."""
+    delay, loss = (float(it) for it in link.split(":"))
+    rto = max(1.5 * 2 * delay, 20)
+    env = {**os.environ, "DELAY_MS": f"{2 * delay + 10:.0f}", "RTO_MS": f"{rto:.0f}"}
+    at = ("10.9.0.1", "7001")
+    pairs = {
+        "objects": (
+            ["objects", "take", *at, str(LANES), str(4 * octets), "/dev/null"],
+            ["objects", "put", *at, str(LANES), str(octets), str(TIMES)],
+        ),
+        "TCP": (["tcp", "serve", *at, "-"], ["tcp", "ask", *at, "message", str(TIMES), str(octets), "30"]),
+    }
+    found = {}
+    for name, commands in pairs.items():
+        (first, *first_words), (second, *second_words) = commands
+        words = [sys.executable, str(TOP / "tests" / "wan.py"), f"{delay}", f"{loss / 100}", "0", "0", "--serve"]
+        words += ["--seconds", "40", "--", str(folder / first), *first_words, "--", str(folder / second), *second_words]
+        ran = subprocess.run(words, capture_output=True, text=True, env=env, check=False)
+        said = [it.split() for it in ran.stdout.splitlines()]
+        found[name] = [float(it[2]) / (1000 if it[0] == "put" else 1) for it in said if it[0] in ("put", "done")]
+    return found
+
+
+def links(folder: pathlib.Path, given: argparse.Namespace) -> None:
+    for link in given.links:
+        for octets in SIZES:
+            seen: dict[str, list[list[float]]] = {}
+            for _ in range(given.runs):
+                for name, found in over_link(folder, link, octets).items():
+                    seen.setdefault(name, []).append(found)
+            for name, runs in seen.items():
+                first = sorted(it[0] for it in runs if it)
+                later = sorted(it for found in runs for it in found[1:])
+                text = f"first {first[0]:.3f} s, later {later[0]:.3f} s" if first and later else "none arrived"
+                all_of_them = "; ".join(" ".join(f"{it:.3f}" for it in found) for found in runs)
+                print(f"{link.replace(':', ' ms, ')} %  {octets:>10,} octets  {name:8} {text}   ({all_of_them})", flush=True)
+
+
 def line(name: str, found: list[tuple[float, float]], base: float) -> str:
     rate, processor = max(it[0] for it in found), min(it[1] for it in found if it[1] or not it[0])
     factor = f"{rate / base:6.2f}" if base else " " * 6
@@ -184,6 +228,7 @@ def main() -> int:
     reads.add_argument("--runs", type=int, default=5)
     reads.add_argument("--seconds", type=float, default=2)
     reads.add_argument("--only", nargs="*", metavar="NAME", help=", ".join((*PEERS, *PYTHONS)))
+    reads.add_argument("--links", nargs="*", default=[], metavar="DELAY:LOSS", help="in ms and in %%")
     given = reads.parse_args()
     if not (TOP / "lib" / "libdeltat-udp.a").exists():
         print("there is no lib/libdeltat-udp.a: make -C lib", file=sys.stderr)
@@ -191,6 +236,10 @@ def main() -> int:
     with tempfile.TemporaryDirectory(prefix="deltat-bench-") as name:
         folder = pathlib.Path(name)
         programs = built(folder)
+        if given.links:
+            print("load", pathlib.Path("/proc/loadavg").read_text().strip(), flush=True)
+            links(folder, given)
+            return 0
         peers = {
             name: it for name, it in PEERS.items() if it.program in programs and (not given.only or name in given.only)
         }

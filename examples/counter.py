@@ -32,7 +32,8 @@ async def serve() -> None:
     sums: dict[str, int] = collections.Counter()
     with deltat.State(deltat.usual_folder("deltat-counter", 2), 2, PARAMS) as state:
         node = deltat.Node(2, PARAMS, [deltat.Link(1, CHARGE - 20)], {1: 1}, state=state)
-        async with deltat.AsyncUdp(node, ("127.0.0.1", 4002), {1: ("127.0.0.1", 4001)}) as udp:
+        # (dtcat has no watch, since it speaks with `deltat node` too)
+        async with deltat.AsyncUdp(node, ("127.0.0.1", 4002), {1: ("127.0.0.1", 4001)}, watch=False) as udp:
             async for message in udp:
                 await udp.send(message.flow.reversed(), answer(sums, message).encode())
 

@@ -3,6 +3,7 @@
 
     examples/echo.py serve              node 2 on port 4002, until it is interrupted
     examples/echo.py ask hello world    node 1 on port 4001: sends each word, prints the answers
+    examples/echo.py ask-plain hello    the same of a service without a watch, as examples/echo.c
 
 What the client sends arrives at most once, whatever the network repeats. Each node has a state folder,
 ~/.local/state/deltat-echo/NODE: one that ran less than 1.9 s before is silent at first, until these are over."""
@@ -21,10 +22,10 @@ def opened_state(number: int) -> deltat.State:
     return deltat.State(deltat.usual_folder("deltat-echo", number), number, PARAMS)
 
 
-def opened_udp(state: deltat.State) -> deltat.Udp:
+def opened_udp(state: deltat.State, watch: bool = True) -> deltat.Udp:
     peers = {other: address for other, address in HOSTS.items() if other != state.node}
     node = deltat.Node(state.node, PARAMS, [deltat.Link(1, CHARGE)], {other: 1 for other in peers}, state=state)
-    return deltat.Udp(node, HOSTS[state.node], peers)
+    return deltat.Udp(node, HOSTS[state.node], peers, watch=watch)
 
 
 def serve() -> None:
@@ -33,8 +34,8 @@ def serve() -> None:
             udp.send(message.flow.reversed(), message.octets[::-1])
 
 
-def ask(words: list[str]) -> None:
-    with opened_state(1) as state, opened_udp(state) as udp:
+def ask(words: list[str], watch: bool) -> None:
+    with opened_state(1) as state, opened_udp(state, watch) as udp:
         udp.run_for(state.silence() / 1000)
         for word in words:
             udp.send(deltat.Flow(1, 10, 2, 20), word.encode())
@@ -44,4 +45,4 @@ def ask(words: list[str]) -> None:
 
 if __name__ == "__main__":
     word, *rest = sys.argv[1:] or ["serve"]
-    serve() if word == "serve" else ask(rest)
+    serve() if word == "serve" else ask(rest, watch=word == "ask")

@@ -135,7 +135,9 @@ enum dt_udp_alarm { /* `cause` of DT_UDP_EVENT_ALARM: once for each opening of t
     DT_UDP_ALARM_CLOCK = 1,     /* one of the two clocks stood, was set, or is wrong by more than 100 parts
                                    in a million. Close the driver of the end whose clock it was, or of both,
                                    and open it again */
-    DT_UDP_ALARM_PARAMETERS = 2 /* the peer has other parameters */
+    DT_UDP_ALARM_PARAMETERS = 2, /* the peer has other parameters */
+    DT_UDP_ALARM_WATCH = 3      /* this end has a watch and the peer hasn't, or the other way round: once for each
+                                   peer. Open both with a watch, or both with DT_UDP_FLAG_WITHOUT_WATCH */
 };
 
 /* Belongs to the driver, and stays as it is until the next call of dt_udp_next_event or dt_udp_close. */
@@ -152,6 +154,7 @@ struct dt_udp_event {
     uint8_t cause; /* enum dt_cause (UNSURE), enum dt_status_code (PUT_ENDED, FAILED) */
     bool gap;      /* octets of the flow before this message may be missing */
     const struct dt_report *report; /* of DT_UDP_EVENT_REPORT, else null */
+    uint64_t user; /* of ANSWERED and UNSURE: what the call was given by dt_udp_make_call, else 0 */
 };
 
 /* Counters begin at 0 when the driver is opened. */
@@ -178,7 +181,13 @@ struct dt_udp_counts {
     uint64_t early_openings;              /* dropped: too soon after the last frame of the opening before */
     uint64_t openings_proved;             /* openings of peers that were found to be the present ones */
     uint64_t pings_in, pings_out;         /* questions how old a datagram is */
+    uint64_t with_trailer;                /* dropped: the sender has a watch, and this end has none */
 };
+
+/* Computes the parameters for a network whose nodes have drivers with a watch, and the charge of its links: as
+ * dt_params_for, of links whose MTU is less by the trailer and whose longest delay is longer by two round trips. So long
+ * may the age of a datagram be above the time that it was under way (docs/watch.md). Returns what dt_params_for does. */
+dt_status dt_udp_params_for(const struct dt_network *network, struct dt_params *params, uint32_t *charge);
 
 /* Returns the interface version of the library. Compare it with DT_UDP_ABI_VERSION first. */
 uint32_t dt_udp_abi_version(void);
@@ -231,6 +240,20 @@ struct dt_send_result dt_udp_send(dt_udp *udp, const struct dt_flow *flow, const
  *   DT_NOT_OPEN  also: the driver is a node's, failed, or is in a forked child */
 struct dt_call_result dt_udp_call(dt_udp *udp, const struct dt_flow *flow, const void *octets, size_t len,
                            uint32_t timeout_ms);
+
+/* Of a call. Zero the struct, and set `size` and what you need. */
+struct dt_udp_call_options {
+    uint32_t size;       /* sizeof(struct dt_udp_call_options) */
+    uint32_t timeout_ms; /* at least 1 */
+    struct dt_flow flow; /* from a caller's port of this node */
+    uint64_t user;       /* the event of its end has it: a pointer, an index, or 0 */
+};
+
+/* Makes a call as dt_udp_call does, with a value of the caller's that its end has: so the caller needs no table of
+ * calls by their numbers.
+ *   DT_INVALID  also: options.size isn't that of the struct */
+struct dt_call_result dt_udp_make_call(dt_udp *udp, const struct dt_udp_call_options *options, const void *octets,
+                                       size_t len);
 
 /* Replies to a request, once; of a service. `octets` may be those of the event. As dt_service_reply. A reply may wait
  * in the driver as a call does; then DT_OK says only that it was kept, and a second one for the same request is
@@ -340,11 +363,15 @@ struct dt_udp_driven {
     dt_node *node;        /* exactly one of the two: it is open */
     dt_service *service;
     struct dt_udp_keeper *keeper;     /* [none: the program has no state folder] */
+    const struct dt_link *links;      /* with the watch: those of the node, with their charges */
+    size_t link_count;
     const struct dt_udp_hooks *hooks; /* [none: the functions of deltat.h] */
 };
 
-/* As dt_udp_open, with a node of the program. Of `options` size, node, host, port, params and flags count; the guard,
- * the ports and the routes are the program's. */
+/* As dt_udp_open, with a node of the program, before the first call of that. Of `options` size, node, host, port, params
+ * and flags count; the guard, the ports and the routes are the program's. Without DT_UDP_FLAG_WITHOUT_WATCH each
+ * neighbour needs a driver with a watch; then the program calls dt_udp_flush_since after each call of the node, since
+ * what leaves otherwise counts as made when the driver was last called. Nothing limits what is under way. */
 dt_udp *dt_udp_drive(const struct dt_udp_driven *driven, const struct dt_udp_options *options,
                      struct dt_udp_error *error);
 
@@ -357,10 +384,18 @@ dt_status dt_udp_set_neighbour(dt_udp *udp, const struct dt_route *route, const 
 /* One event of a batch. It has no pointer, so that a binding reads many at once. */
 struct dt_udp_item {
     uint64_t call;       /* of an end, or of the request's token */
-    uint32_t at, len;    /* where its octets are in the room, and how many */
-    struct dt_flow flow; /* of a request, or of REPLY_UNCERTAIN */
-    uint8_t kind;        /* enum dt_udp_event_kind: REQUEST, ANSWERED, UNSURE or REPLY_UNCERTAIN */
+    uint32_t at, len;    /* where its octets are in the room, and how many; of TOO_BIG: of the datagram */
+    struct dt_flow flow; /* of a request, or of REPLY_UNCERTAIN; of TOO_BIG its target is the peer */
+    uint8_t kind;        /* enum dt_udp_event_kind */
     uint8_t cause;       /* of UNSURE: enum dt_cause */
+    uint64_t user;       /* of an end: what dt_udp_make_call was given */
+};
+
+/* A call of a batch. Its octets are behind those of the call before. */
+struct dt_udp_batch_call {
+    struct dt_flow flow;
+    uint32_t timeout_ms, len;
+    uint64_t user;
 };
 
 /* Zero the struct, and set the first four. */
@@ -373,13 +408,19 @@ struct dt_udp_batch {
     uint32_t heard_count;     /* set: the nodes whose datagrams were passed in, each at least once; DT_UDP_MAX_HEARD
                                  also if there were more */
     bool blocked;             /* set: the guard of a driven node dropped a datagram */
+    uint8_t alarm;            /* set: enum dt_udp_alarm of the node `alarm_peer`, or 0; each batch has one at most */
+    uint32_t alarm_peer;
+    const struct dt_udp_batch_call *calls; /* [null] `call_count` calls to make first, as by dt_udp_make_call */
+    const uint8_t *payloads;
+    uint32_t call_count, calls_made; /* set: how many of them were made. If one wasn't, those after it aren't tried, */
+    struct dt_call_result refused;   /* set: this says why, and nothing is waited for */
 };
 
 enum { DT_UDP_MAX_HEARD = 64 };
 
-/* Returns events of a service as dt_udp_next_event does, many at once: waits at most `wait_ms` ms for the first one,
- * sends and receives what is due, and puts what was made meanwhile on the wire. Of a driven node, and with `max_items`
- * 0 of a driven service, it takes no events, and returns when something arrived or was due.
+/* Returns events of a service as dt_udp_next_event does, many at once: makes calls, waits at most `wait_ms` ms for the
+ * first event, sends and receives what is due, and puts what was made meanwhile on the wire. Of a driven node, and with
+ * `max_items` 0, it takes no events, and returns when something arrived or was due. Alarms aren't among the items.
  *   DT_OK        `count` events, 0 if there was none in `wait_ms`, or a signal came
  *   DT_INVALID   of a node that isn't driven
  *   DT_NO_MEMORY, DT_STOPPED, DT_NOT_OPEN  the driver can't continue; `count` events waited before that */

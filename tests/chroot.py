@@ -65,7 +65,7 @@ cc -std=gnu11 -O2 examples/echo.c $(pkg-config --cflags --libs deltat) -o /root/
 ldconfig -p | grep -q libdeltat.so.2
 timeout 30 /root/echo &
 sleep 1
-python3 examples/echo.py ask hello world
+python3 examples/echo.py ask-plain hello world
 kill $!
 """
 # the wheel of the Python package, in an environment of its own, and with it the programs of README and of the library's
@@ -129,7 +129,7 @@ block rust docs/library.md >src/main.rs
 cargo build --offline --quiet
 timeout 30 target/debug/service &
 sleep 3
-python3 /root/copy/examples/echo.py ask hello world
+python3 /root/copy/examples/echo.py ask-plain hello world
 kill $!
 """
 # what systemd runs: the unit of two nodes, of which one is killed and the other's script is refused

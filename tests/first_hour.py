@@ -95,10 +95,15 @@ def server_of(number: int, others: list[int], limits: deltat.ServiceLimits = del
     return node
 
 
-def pair_of_udp(one: object, two: object, make: type = deltat.Udp) -> tuple[object, object, tuple[int, int]]:
+def pair_of_udp(
+    one: object, two: object, make: type = deltat.Udp, watch: bool = True
+) -> tuple[object, object, tuple[int, int]]:
     """Sockets of nodes 1 and 2 at ports that nobody has."""
     ports = own_port(), own_port()
-    return make(one, (HOST, ports[0]), {2: (HOST, ports[1])}), make(two, (HOST, ports[1]), {1: (HOST, ports[0])}), ports
+    ends = (
+        make(it, (HOST, ports[at]), {2 - at: (HOST, ports[1 - at])}, watch=watch) for at, it in enumerate((one, two))
+    )
+    return *ends, ports
 
 
 @contextlib.contextmanager
@@ -185,7 +190,7 @@ def state_is_asked() -> None:
         with socket.socket(socket.AF_INET, socket.SOCK_DGRAM) as peer:
             peer.bind((HOST, 0))
             peer.setblocking(False)
-            udp = deltat.Udp(caller, (HOST, own_port()), {2: peer.getsockname()})
+            udp = deltat.Udp(caller, (HOST, own_port()), {2: peer.getsockname()}, watch=False)
             caller.call(CALL, b"x", 1000)
             with raises(BlockingIOError):
                 peer.recv(2000)
@@ -213,7 +218,7 @@ def state_refuses() -> None:
     state.note_packet = refuse
     with socket.socket(socket.AF_INET, socket.SOCK_DGRAM) as peer:
         peer.bind((HOST, 0))
-        udp = deltat.Udp(deltat.Node(1, PARAMS, LINKS, {2: 1}, state=state), (HOST, own_port()), {2: peer.getsockname()})
+        udp = deltat.Udp(deltat.Node(1, PARAMS, LINKS, {2: 1}, state=state), (HOST, own_port()), {2: peer.getsockname()}, watch=False)
         peer.sendto(bytes(40), udp.socket.getsockname())
         for _ in range(2):
             with raises(deltat.StateError, "the disk is full"):
@@ -534,7 +539,7 @@ def stopped_at(place, before, stamps):
     library.set_stop(-1, 0, stamps, 0, 0)
     with socket.socket(socket.AF_INET, socket.SOCK_DGRAM) as peer:
         peer.bind((HOST, 0))
-        with deltat.Udp(node, (HOST, 0), {2: peer.getsockname()}) as udp:
+        with deltat.Udp(node, (HOST, 0), {2: peer.getsockname()}, watch=False) as udp:
             # (stamps count from 100 ms on)
             for _ in range(6 if stamps else 1):
                 udp.poll(0.02)
@@ -624,7 +629,8 @@ def bad_replies() -> None:
 
     with Lines() as log:
         asyncio.run(main(log))
-    client, server, _ = pair_of_udp(caller_of(1, 2), server_of(2, [1], deltat.ServiceLimits(10, 1, 1)))
+    # (the client takes no turn, so it would answer no question of a watch)
+    client, server, _ = pair_of_udp(caller_of(1, 2), server_of(2, [1], deltat.ServiceLimits(10, 1, 1)), watch=False)
     calls = deltat.Calls(server)
     calls.on(20)(lambda request: bad.get(request.payload, b"fine"))
     with client, server:
@@ -965,7 +971,7 @@ def blocked_once() -> int:
 
 def flood() -> None:
     """120,000 new flows come from a peer's address, and no guard was set: the service stays as large, and serves"""
-    client, server, _ = pair_of_udp(caller_of(1, 2), server_of(2, [1]))
+    client, server, _ = pair_of_udp(caller_of(1, 2), server_of(2, [1]), watch=False)
     with client, server:
         number = client.node.call(CALL, b"x", 1)
         pattern = bytearray(next(client.node.datagrams()).octets)

@@ -76,7 +76,7 @@ class Caller:
 
     async def run(self) -> None:
         while self.left() > 0:
-            async with deltat.AsyncUdp(self.opened(), (HOST, self.place.port), {self.place.next_hop: (HOST, self.place.to)}) as udp:
+            async with deltat.AsyncUdp(self.opened(), (HOST, self.place.port), {self.place.next_hop: (HOST, self.place.to)}, watch=False) as udp:
                 calls = deltat.AsyncCalls(udp)
                 await (self.serve(calls) if self.place.number == SERVICE else self.ask(calls))
         self.notes.note("over")

@@ -1,15 +1,16 @@
 #!/usr/bin/env python3
 """The driver over UDP sockets, libdeltat-udp, with the address and undefined-behaviour sanitizers.
 
-`tests/udp.py [CASE ..]`; all cases where none is named. It builds lib/udp with tests/udp/*.c over lib/libdeltat.a and
+`tests/udp.py [--clients N] [CASE ..]`; all cases where none is named. It builds lib/udp with tests/udp/*.c over lib/libdeltat.a and
 runs them as processes over 127.0.0.1, ::1 and `localhost`, under the driver's own wait, poll, epoll and GLib's loop;
 through a relay that loses 1 %; with an end that is killed and started again; in a forked child; with services that the program opened; over a path that is
-too narrow for a segment; and with strangers: sixteen thousand that come and go, one whose address changes, and forgers;
-the state folder; and objects. Ends with 77 where there is no compiler or no archive; a case whose tool is missing
+too narrow for a segment; and with strangers: sixteen thousand that come and go, N (2,000) behind one address, as a
+gateway with nft's masquerade gives it to them, one whose address changes, and forgers; the state folder; and objects. Ends with 77 where there is no compiler or no archive; a case whose tool is missing
 says so.
 
 In tests/all: no words, 1200 s."""
 import argparse
+import contextlib
 import os
 import pathlib
 import re
@@ -23,7 +24,7 @@ import tempfile
 import threading
 import time
 import zlib
-from collections.abc import Callable, Sequence
+from collections.abc import Callable, Iterator, Sequence
 from random import Random
 
 from lib import HOST, TOP, free_port, skip
@@ -37,6 +38,8 @@ COMPILER = shutil.which("gcc") or shutil.which("clang") or ""
 WITHOUT_WATCH = 32
 # how long a process may take, on a machine that others load
 PATIENCE = 60
+# how many come to the service behind a gateway
+CLIENTS = 2_000
 
 
 class Built:
@@ -96,6 +99,11 @@ class End:
             self.process.kill()
             raise AssertionError(f"{' '.join(words)}: {line}{self.process.communicate()[1]}")
         self.port, self.life, self.silent = (int(it) for it in line.split()[1::2])
+
+    def resident(self) -> int:
+        """The KiB of memory that it has."""
+        found = re.search(r"VmRSS:\s+(\d+)", pathlib.Path(f"/proc/{self.process.pid}/status").read_text())
+        return int(found[1])
 
     def kill(self) -> None:
         self.process.kill()
@@ -473,17 +481,13 @@ def learnt(built: Built, folder: pathlib.Path) -> str:
     log = folder / "learnt.log"
     server = End(built("ends", plain=True), "serve", "next", host=HOST, node=2, learns=6000, r=2000, log=log)
 
-    def resident() -> int:
-        found = re.search(r"VmRSS:\s+(\d+)", pathlib.Path(f"/proc/{server.process.pid}/status").read_text())
-        return int(found[1])
-
     said, sizes = {"answered": 0, "unsure": 0, "wrong": 0}, []
     for first in range(1000, 17000, 2000):
-        words = [built("crowd", plain=True), str(server.port), str(first), "2000", "50"]
+        words = [built("crowd", plain=True), HOST, str(server.port), str(first), "2000", "50"]
         ran = subprocess.run(words, capture_output=True, text=True, timeout=2 * PATIENCE, check=True)
         for key, value in figures(ran.stdout).items():
             said[key] += value
-        sizes.append(resident())
+        sizes.append(server.resident())
         time.sleep(1.5)
     found = figures(server.stop())
     served = log.read_text().split()
@@ -496,6 +500,65 @@ def learnt(built: Built, folder: pathlib.Path) -> str:
     # (what is live at one time depends on how fast they come; the table of peers is full after the third round)
     wants(max(sizes[6:]) < 1.25 * max(sizes[2:5]), f"the service grew: {sizes} KiB")
     return f"16,000 clients, {sizes[0]} to {sizes[-1]} KiB resident, {found['challenges']} challenges"
+
+
+@contextlib.contextmanager
+def gateway() -> Iterator[tuple[tuple[str, ...], tuple[str, ...]]]:
+    """Three networks of their own: of clients, of a gateway that gives them its one address and 4,096 ports, each for a
+    second after the last datagram (nft's masquerade), and of a service. Words that run a program among the clients,
+    and at 10.78.0.2."""
+    with contextlib.ExitStack() as all_of_them:
+        spaces = []
+        for _ in range(3):
+            it = subprocess.Popen(["unshare", "--net", "sleep", "600"])
+            all_of_them.callback(it.wait)
+            all_of_them.callback(it.kill)
+            spaces.append(it.pid)
+        time.sleep(0.3)
+        enters = [("nsenter", f"--net=/proc/{it}/ns/net") for it in spaces]
+        clients, own, service = enters
+        script = f"""
+        ip link add c0 type veth peer name c1 netns {spaces[0]}
+        ip link add s0 type veth peer name s1 netns {spaces[2]}
+        ip address add 10.77.0.1/16 dev c0; ip address add 10.78.0.1/24 dev s0
+        ip link set c0 up; ip link set s0 up
+        echo 1 >/proc/sys/net/ipv4/ip_forward
+        echo 1 >/proc/sys/net/netfilter/nf_conntrack_udp_timeout
+        echo 1 >/proc/sys/net/netfilter/nf_conntrack_udp_timeout_stream
+        nft add table ip t
+        nft add chain ip t p '{{ type nat hook postrouting priority 100; }}'
+        nft add rule ip t p oifname s0 meta l4proto udp masquerade to :40000-44095
+        {' '.join(clients)} sh -c 'ip address add 10.77.0.2/16 dev c1; ip link set c1 up; ip route add default via 10.77.0.1'
+        {' '.join(service)} sh -c 'ip address add 10.78.0.2/24 dev s1; ip link set s1 up'
+        """
+        subprocess.run([*own, "sh", "-ec", script], check=True, capture_output=True, text=True)
+        yield clients, service
+
+
+def masqueraded(built: Built, folder: pathlib.Path) -> str:
+    """Clients that nobody listed come, ask and go behind one address, whose ports the gateway gives to one after another:
+    all are answered, none twice, in bounded memory."""
+    if os.geteuid() or not all(shutil.which(it) for it in ("unshare", "nsenter", "ip", "nft")):
+        return "left out: it needs root, unshare, nsenter, ip and nft"
+    log, each, said = folder / "masqueraded.log", CLIENTS // 10, {"answered": 0, "unsure": 0, "wrong": 0}
+    sizes = list[int]()
+    with gateway() as (inside, outside):
+        keys = {"host": "10.78.0.2", "node": 2, "learns": 3 * each, "r": 2000, "log": log}
+        server = End(built("ends", plain=True), "serve", "next", before=outside, **keys)
+        for first in range(1000, 1000 + 10 * each, each):
+            words = [*inside, built("crowd", plain=True), "10.78.0.2", str(server.port), str(first), str(each), "50"]
+            ran = subprocess.run(words, capture_output=True, text=True, timeout=PATIENCE, check=True)
+            for key, value in figures(ran.stdout).items():
+                said[key] += value
+            sizes.append(server.resident())
+            time.sleep(1.5)  # (what was learnt may be forgotten after the quiet time, 3.5 s)
+        found = figures(server.stop())
+    served = log.read_text().split()
+    wants(said == {"answered": 10 * each, "unsure": 0, "wrong": 0}, str(said))
+    wants(len(served) == len(set(served)) == 10 * each, f"{len(served)} were served, {len(set(served))} of them different")
+    wants(found["learnt"] >= 10 * each and found["forgotten"] >= 5 * each, str(found))
+    wants(max(sizes[6:]) < 1.25 * max(sizes[2:5]), f"the service grew: {sizes} KiB")
+    return f"{10 * each} clients, {sizes[0]} to {sizes[-1]} KiB resident, {found['challenges']} challenges"
 
 
 def rebinds(built: Built, folder: pathlib.Path) -> str:
@@ -774,6 +837,7 @@ CASES: list[Callable[[Built, pathlib.Path], str]] = [
     driven,
     narrow,
     learnt,
+    masqueraded,
     rebinds,
     forgers,
     state,
@@ -784,7 +848,9 @@ CASES: list[Callable[[Built, pathlib.Path], str]] = [
 def main() -> int:
     reads = argparse.ArgumentParser(description=__doc__, formatter_class=argparse.RawDescriptionHelpFormatter)
     reads.add_argument("cases", nargs="*", metavar="CASE", help=", ".join(it.__name__ for it in CASES))
+    reads.add_argument("--clients", type=int, default=CLIENTS, metavar="N", help="behind a gateway (%(default)s)")
     given = reads.parse_args()
+    globals()["CLIENTS"] = given.clients
     if not COMPILER:
         skip("there is no compiler of C")
     if not ARCHIVE.exists():

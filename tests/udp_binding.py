@@ -27,8 +27,7 @@ if not all((TOP / "lib" / it).exists() for it in ("libdeltat.so.2", "libdeltat-u
 sys.path.insert(0, str(TOP / "bindings" / "python"))
 
 import deltat  # noqa: E402
-from deltat._c_udp import Flag  # noqa: E402
-from deltat import Cause, Declined, Gone, PortKind, Request, Start, Status, Token, Unsure, driver  # noqa: E402
+from deltat import Cause, Declined, Gone, PortKind, Request, Start, Status, Token, Unsure, driver, service  # noqa: E402
 
 PARAMS = deltat.Params(mpl=482, r=3000, a=5, rto=90, probe=180, seg=1442, cap=65536, rcap=65536, window=65536)
 CALLER, SERVICE, OTHER = 10, 20, 21
@@ -52,9 +51,13 @@ def opened(node: int, port: int | None = None, **more: object) -> driver.Udp:
     return driver.Udp(node, PARAMS, 294, HOST, port, **more)
 
 
-def serve_without_watch(port: int) -> None:
-    """As `serve`, for clients whose program opened their node: they have no watch."""
-    serve(port, Flag.WITHOUT_WATCH)
+def begun(calls: driver.Calls, flow: deltat.Flow, payload: bytes, timeout: float) -> None:
+    """Makes a call for whose end nobody waits. Raises why it wasn't made."""
+    end = service._End()
+    calls._desk.begin(calls.udp._driven, end, flow, payload, timeout)
+    calls._desk.turn(calls.udp._driven, 0)
+    if end.why:
+        raise end.why
 
 
 def serve(port: int, flags: int = 0) -> None:
@@ -92,7 +95,7 @@ def serve_async(port: int) -> None:
 
 
 @contextmanager
-def service(function: Callable[[int], None]) -> Iterator[int]:
+def serving(function: Callable[[int], None]) -> Iterator[int]:
     """A process that serves at the port."""
     port = free_port()
     process = multiprocessing.get_context("spawn").Process(target=function, args=(port,), daemon=True)
@@ -117,7 +120,7 @@ def client(port: int) -> Iterator[tuple[driver.Udp, deltat.Flow]]:
 
 def calls() -> str:
     """Calls one after another, of every size; a request that is forgotten; and a service that isn't there."""
-    with service(serve) as port, client(port) as (udp, flow):
+    with serving(serve) as port, client(port) as (udp, flow):
         made = driver.Calls(udp)
         until = time.monotonic() + 30
         while True:
@@ -140,7 +143,7 @@ def calls() -> str:
         raises(deltat.InvalidArgument, lambda: made.call(flow._replace(source_port=11), b"x"))
         raises(
             Declined,
-            lambda: [made.udp and driver._made(udp, nobody, bytes(30000), 0.1) for _ in range(9)],
+            lambda: [begun(made, nobody, bytes(30000), 0.1) for _ in range(9)],
         )
         wants(udp.drain(5.0), "all is acknowledged or uncertain")
     raises(deltat.Stopped, lambda: made.call(flow, b"x"))
@@ -168,7 +171,7 @@ def at_once() -> str:
                     return found
                 raise AssertionError("nobody is there, and it is answered")
 
-    with service(serve_async) as port:
+    with serving(serve_async) as port:
         found = asyncio.run(main(port))
     wants(found == [(b"%d" % i)[::-1] for i in range(200)], "each has its own answer")
     return "200 calls"
@@ -209,15 +212,15 @@ def uncertain() -> str:
             made = driver.Calls(caller)
             request = None
             until = time.monotonic() + 20
-            driver._made(caller, flow, b"x", 5.0)
+            begun(made, flow, b"x", 5.0)
             while request is None and time.monotonic() < until:
-                made._step(10)
+                caller.poll(0.01)
                 request = next(calls.requests(0.01), None)
             wants(request is not None, "the request arrives")
         calls.reply(request.token, b"yes")
         until = time.monotonic() + 20
         while not calls.uncertain and time.monotonic() < until:
-            calls._step(100)
+            udp.poll(0.1)
         wants(calls.uncertain == {flow}, f"the flow of the request: {calls.uncertain}")
     return "the flow of its request"
 
@@ -241,7 +244,7 @@ def errors() -> str:
             udp.open_port(CALLER, PortKind.CALLER)
             found = raises(Declined, lambda: driver.Calls(udp).call(deltat.Flow(3, CALLER, 2, SERVICE), b"x"))
             wants(found.status == Status.QUIET and found.until > 0, "it is silent")
-            raises(Gone, lambda: driver._replied(udp, Token(deltat.Flow(2, 1, 3, CALLER), 1), b"x"))
+            raises(Gone, lambda: driver.Calls(udp).reply(Token(deltat.Flow(2, 1, 3, CALLER), 1), b"x"))
             child = os.fork()
             if child == 0:
                 try:
@@ -270,7 +273,7 @@ def neighbours() -> str:
             it.bind((HOST, 0))
             it.settimeout(5)
         node = node_of(1, [7, 8, 9], {2: 7, 3: 7, 4: 8, 5: 8, 6: 9})
-        udp = ends.enter_context(deltat.Udp(node, (HOST, 0), {2: near.getsockname(), 4: far.getsockname()}))
+        udp = ends.enter_context(deltat.Udp(node, (HOST, 0), {2: near.getsockname(), 4: far.getsockname()}, watch=False))
         for target, end in ((2, near), (3, near), (4, far), (5, far)):
             udp.send(deltat.Flow(1, 10, target, 20), b"to %d" % target)
             octets = end.recv(2000)
@@ -307,7 +310,7 @@ def idle() -> str:
 def unlisted() -> str:
     """A client by `deltat.Udp` that its service doesn't list answers the challenge, and is answered; its state folder
     has what the driver passed in."""
-    with service(serve_without_watch) as port, tempfile.TemporaryDirectory() as folder:
+    with serving(serve) as port, tempfile.TemporaryDirectory() as folder:
         number, lives = deltat.fresh_number(), []
         for _ in range(2):
             with deltat.State(folder, number, PARAMS) as state:

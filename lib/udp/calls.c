@@ -81,7 +81,7 @@ struct dt_send_result dt_udp_send(dt_udp *u, const struct dt_flow *flow, const v
     if (status != DT_OK) return (struct dt_send_result){.status = status};
     struct iovec payload = payload_of(octets, len);
     struct peer *peer = dtu_peers_find(&u->peers, flow->target);
-    if (dtu_govern_waits(u, peer, len)) {
+    if (dtu_govern_waits(u, peer, flow, len)) {
         u->governing.wants_room = true;
         return (struct dt_send_result){.status = DT_FULL};
     }
@@ -92,28 +92,81 @@ struct dt_send_result dt_udp_send(dt_udp *u, const struct dt_flow *flow, const v
     return sent;
 }
 
+/* --- the users of calls that wait */
+
+static struct user **user_at(const dt_udp *u, uint64_t call) {
+    struct user **it = &u->users[call % USERS];
+    while (*it && (*it)->call != call) it = &(*it)->next;
+    return it;
+}
+
+/* What a call that waited was given as its user, which is forgotten then. */
+uint64_t dtu_calls_user(dt_udp *u, uint64_t call) {
+    struct user **place = u->users ? user_at(u, call) : NULL, *it = place ? *place : NULL;
+    if (it == NULL) return 0;
+    uint64_t user = it->user;
+    *place = it->next;
+    free(it);
+    return user;
+}
+
+void dtu_calls_close(dt_udp *u) {
+    for (size_t i = 0; u->users && i < USERS; i++)
+        for (struct user *it = u->users[i], *next; it; it = next) {
+            next = it->next;
+            free(it);
+        }
+    free(u->users);
+}
+
+/* --- calls and replies */
+
 /* Whether the library would take such a call, so that it may wait: what is wrong is said at once. */
-static bool may_wait(const dt_udp *u, const struct dt_flow *flow, size_t len, uint32_t timeout_ms) {
+static bool may_wait(const dt_udp *u, const struct dt_udp_call_options *o, size_t len, uint64_t at) {
+    const struct dt_flow *flow = &o->flow;
     bool open = u->ports.open[flow->source_port / 8] >> flow->source_port % 8 & 1;
-    return open && flow->source == u->options.node && flow->target != flow->source && timeout_ms > 0 &&
-           len + 8 <= u->options.params->cap && dtu_clock_ms() >= u->quiet_until;
+    return open && flow->source == u->options.node && flow->target != flow->source && o->timeout_ms > 0 &&
+           len + 8 <= u->options.params->cap && at >= u->quiet_until;
+}
+
+/* Keeps a call until it may enter. */
+static struct dt_call_result keep(dt_udp *u, struct peer *peer, const struct dt_udp_call_options *o,
+                                  const struct iovec *payload) {
+    struct dt_call_result none = {.status = DT_NO_MEMORY};
+    struct user *it = NULL;
+    if (o->user && u->users == NULL) u->users = calloc(USERS, sizeof *u->users);
+    if (o->user && (u->users == NULL || (it = malloc(sizeof *it)) == NULL)) return none;
+    struct dt_call_result made = dtu_govern_keep_call(u, peer, &o->flow, payload, o->timeout_ms);
+    if (made.status != DT_OK) free(it);
+    else if (it) {
+        struct user **bucket = &u->users[made.call % USERS];
+        *it = (struct user){.next = *bucket, .call = made.call, .user = o->user};
+        *bucket = it;
+    }
+    return made;
+}
+
+struct dt_call_result dt_udp_make_call(dt_udp *u, const struct dt_udp_call_options *o, const void *octets,
+                                       size_t len) {
+    uint64_t at = 0;
+    if (o->size != sizeof *o) return (struct dt_call_result){.status = DT_INVALID};
+    dt_status status = begin(u, u->core.service, &at);
+    if (status != DT_OK) return (struct dt_call_result){.status = status};
+    struct iovec payload = payload_of(octets, len);
+    struct peer *peer = dtu_peers_find(&u->peers, o->flow.target);
+    if (may_wait(u, o, len, at) && dtu_govern_waits(u, peer, &o->flow, len)) return keep(u, peer, o, &payload);
+    struct dt_call_result made = dtu_core_make_call(&u->core, at, o, &payload);
+    if (made.status == DT_OK) u->open_calls++;
+    dtu_judge(u);
+    dtu_govern_count(u, peer);
+    (void)dtu_events_keep_up(u, at);
+    return made;
 }
 
 struct dt_call_result dt_udp_call(dt_udp *u, const struct dt_flow *flow, const void *octets, size_t len,
                                   uint32_t timeout_ms) {
-    uint64_t at = 0;
-    dt_status status = begin(u, u->core.service, &at);
-    if (status != DT_OK) return (struct dt_call_result){.status = status};
-    struct iovec payload = payload_of(octets, len);
-    struct peer *peer = dtu_peers_find(&u->peers, flow->target);
-    if (may_wait(u, flow, len, timeout_ms) && dtu_govern_waits(u, peer, len))
-        return dtu_govern_keep_call(u, peer, flow, &payload, timeout_ms);
-    struct dt_call_result made = dtu_core_call(&u->core, at, flow, &payload, timeout_ms);
-    if (made.status == DT_OK) u->open_calls++;
-    dtu_judge(u);
-    dtu_govern_count(u, peer);
-    if (u->core.driven) (void)dtu_events_keep_up(u, at);
-    return made;
+    struct dt_udp_call_options options = {.size = sizeof options, .timeout_ms = timeout_ms, .flow = *flow};
+    return dt_udp_make_call(u, &options, octets, len);
 }
 
 struct dt_reply_result dt_udp_reply(dt_udp *u, const struct dt_token *token, const void *octets, size_t len) {
@@ -122,12 +175,12 @@ struct dt_reply_result dt_udp_reply(dt_udp *u, const struct dt_token *token, con
     if (status != DT_OK) return (struct dt_reply_result){.status = status};
     struct iovec payload = payload_of(octets, len);
     struct peer *peer = dtu_peers_find(&u->peers, token->flow.source);
-    if (len + 8 <= u->options.params->cap && dtu_govern_waits(u, peer, len))
+    if (len + 8 <= u->options.params->cap && dtu_govern_waits(u, peer, &token->flow, len))
         return dtu_govern_keep_reply(u, peer, token, &payload);
     struct dt_reply_result replied = dtu_core_reply(&u->core, at, token, &payload);
     dtu_judge(u);
     dtu_govern_count(u, peer);
-    if (u->core.driven) (void)dtu_events_keep_up(u, at);
+    (void)dtu_events_keep_up(u, at);
     return replied;
 }
 

@@ -137,12 +137,18 @@ struct dt_send_result dtu_core_send(struct core *core, uint64_t now, const struc
     return it;
 }
 
-struct dt_call_result dtu_core_call(struct core *core, uint64_t now, const struct dt_flow *flow,
-                                    const struct iovec *octets, uint32_t timeout_ms) {
-    struct dt_call_result it =
-        dt_service_call(core->service, now, flow, octets->iov_base, octets->iov_len, timeout_ms, 0);
+struct dt_call_result dtu_core_make_call(struct core *core, uint64_t now, const struct dt_udp_call_options *options,
+                                         const struct iovec *octets) {
+    struct dt_call_result it = dt_service_call(core->service, now, &options->flow, octets->iov_base, octets->iov_len,
+                                               options->timeout_ms, options->user);
     kept(core, it.status);
     return it;
+}
+
+struct dt_call_result dtu_core_call(struct core *core, uint64_t now, const struct dt_flow *flow,
+                                    const struct iovec *octets, uint32_t timeout_ms) {
+    struct dt_udp_call_options options = {.flow = *flow, .timeout_ms = timeout_ms};
+    return dtu_core_make_call(core, now, &options, octets);
 }
 
 struct dt_reply_result dtu_core_reply(struct core *core, uint64_t now, const struct dt_token *token,

@@ -21,7 +21,6 @@ dt_udp *dt_udp_drive(const struct dt_udp_driven *driven, const struct dt_udp_opt
     given.start_as = DT_UDP_START_FIRST; /* (the program has started it) */
     given.state = NULL;
     given.max_peers = 0;
-    given.flags |= DT_UDP_FLAG_WITHOUT_WATCH; /* (its neighbours may be programs with loops of their own) */
     return dtu_open(driven, &given, error);
 }
 
@@ -48,7 +47,7 @@ static struct peer **bucket_at(const dt_udp *u, const struct address *at) {
     return &u->driven.there[(value * u->peers.key >> 32) & (u->driven.size - 1)];
 }
 
-static struct peer *neighbour_at(const dt_udp *u, const struct address *at) {
+struct peer *dtu_driven_neighbour(const dt_udp *u, const struct address *at) {
     if (u->driven.there == NULL) return NULL;
     struct peer *it = *bucket_at(u, at);
     while (it && !dtu_same_address(&it->at, at)) it = it->next_there;
@@ -81,6 +80,13 @@ static bool needs_rebuilding(const dt_udp *u, const struct peer *it) {
     return it->at.len || u->driven.count > u->driven.size;
 }
 
+/* The charge of a link of the node: of the first one with this number, as the library has it. */
+static uint32_t charge_of(const dt_udp *u, uint16_t link) {
+    for (size_t i = 0; i < u->driven.link_count; i++)
+        if (u->driven.links[i].number == link) return u->driven.links[i].charge;
+    return 0;
+}
+
 dt_status dt_udp_set_neighbour(dt_udp *u, const struct dt_route *route, const char *host, const char *port,
                                struct dt_udp_error *error) {
     if (error) memset(error, 0, sizeof *error);
@@ -102,6 +108,7 @@ dt_status dt_udp_set_neighbour(dt_udp *u, const struct dt_route *route, const ch
     }
     if (!anew) put_there(u, peer);
     peer->link = route->link;
+    peer->charge = charge_of(u, route->link);
     peer->configured = peer->heard = true;
     return DT_OK;
 }
@@ -124,13 +131,16 @@ static void note_heard(struct driven *d, uint32_t maker) {
     if (!again && d->heard_count < DT_UDP_MAX_HEARD) d->heard[d->heard_count++] = maker;
 }
 
-/* Passes a datagram in if it came from a neighbour. */
-void dtu_driven_receive(dt_udp *u, struct arrival *it) {
-    struct peer *peer = neighbour_at(u, it->from);
-    if (peer == NULL) {
-        u->counts.unknown++;
-        return;
-    }
+/* A datagram of a neighbour came: if its age is known, it is passed in. */
+void dtu_driven_receive(dt_udp *u, struct peer *peer, struct arrival *it) {
+    it->hop = peer->node;
+    it->charge = peer->charge;
+    if (dtu_watch_is_bare(u, it)) dtu_watch_bare(u, peer, it);
+    else if (dtu_watch_takes(u, &peer->watch, it)) dtu_take_frame(u, peer, it);
+}
+
+/* Passes in a datagram of a neighbour. */
+void dtu_driven_take(dt_udp *u, struct peer *peer, const struct arrival *it) {
     u->core.link = peer->link;
     u->core.received = DT_OK;
     if (!dtu_pass_in(u, NULL, it)) { /* (nothing of it is governed) */
@@ -143,9 +153,17 @@ void dtu_driven_receive(dt_udp *u, struct arrival *it) {
     if (it->own.family) peer->own = it->own;
 }
 
-/* The program may have called the node since the driver's last call: what that made leaves too. */
+/* The program may have called the node since the driver's last call: what that made leaves too. It wasn't made before
+ * the node was last asked for all that leaves. */
 void dtu_driven_begin(dt_udp *u) {
-    if (u->core.driven && u->out.made_at == DT_NEVER) u->out.made_at = dtu_clock_ms();
+    if (!u->core.driven || u->out.made_at != DT_NEVER) return;
+    u->out.made_at = dtu_clock_ms();
+    u->out.made_us = u->driven.drained_us;
+}
+
+/* The node is asked for all that leaves. */
+void dtu_driven_drained(dt_udp *u) {
+    if (u->core.driven && u->watching.on) u->driven.drained_us = dtu_clock_us();
 }
 
 /* Tells the hooks of a frame that wasn't sent. They get one frame out at a time. */
@@ -157,6 +175,7 @@ void dtu_driven_written(dt_udp *u) {
 
 bool dt_udp_flush_since(dt_udp *u, uint64_t at) {
     if (!dtu_is_usable(u)) return false;
+    if (u->out.made_at == DT_NEVER || 1000 * at < u->out.made_us) u->out.made_us = 1000 * at;
     if (at < u->out.made_at) u->out.made_at = at;
     dtu_write_all(u);
     return dtu_events_keep_up(u, dtu_clock_ms());

@@ -144,15 +144,15 @@ static bool next_message(dt_udp *u) {
     return true;
 }
 
-static bool next_of_service(dt_udp *u) {
+static bool next_of_service(dt_udp *u, uint8_t *room) {
     struct dt_event it;
-    if (dtu_core_next_event(&u->core, u->event_room, DT_MAX_PAYLOAD, &it) != DT_OK) return false;
+    if (dtu_core_next_event(&u->core, room, DT_MAX_PAYLOAD, &it) != DT_OK) return false;
     if (it.kind == DT_EVENT_REPLY_UNCERTAIN) {
         u->event.kind = DT_UDP_EVENT_REPLY_UNCERTAIN;
         u->event.flow = it.flow;
         return true;
     }
-    u->event.octets = u->event_room;
+    u->event.octets = room;
     u->event.len = it.len;
     if (it.kind == DT_EVENT_REQUEST) {
         u->event.kind = DT_UDP_EVENT_REQUEST;
@@ -161,6 +161,7 @@ static bool next_of_service(dt_udp *u) {
     }
     u->event.kind = it.kind == DT_EVENT_ANSWERED ? DT_UDP_EVENT_ANSWERED : DT_UDP_EVENT_UNSURE;
     u->event.call = dtu_govern_number(u, it.call);
+    u->event.user = u->event.call == it.call ? it.user : dtu_calls_user(u, u->event.call);
     u->event.cause = it.cause;
     u->open_calls -= u->open_calls > 0;
     return true;
@@ -176,11 +177,21 @@ static bool next_too_big(dt_udp *u) {
     return true;
 }
 
-/* Makes the next thing that happened the event. False: nothing did. */
-static bool next_event(dt_udp *u) {
-    return next_too_big(u) || dtu_watch_event(u) || dtu_govern_event(u) || next_report(u) || dtu_objects_event(u) ||
-           (u->core.service ? next_of_service(u) : next_message(u));
+static bool next_of_governor(dt_udp *u) {
+    if (!dtu_govern_event(u)) return false;
+    if (u->event.kind == DT_UDP_EVENT_UNSURE) u->event.user = dtu_calls_user(u, u->event.call);
+    return true;
 }
+
+/* Makes the next thing that happened the event, but for alarms; the octets of a service's are in the room, of
+ * DT_MAX_PAYLOAD octets. False: nothing happened. */
+bool dtu_events_next(dt_udp *u, uint8_t *room) {
+    memset(&u->event, 0, sizeof u->event);
+    return next_too_big(u) || next_of_governor(u) || next_report(u) || dtu_objects_event(u) ||
+           (u->core.service ? next_of_service(u, room) : next_message(u));
+}
+
+static bool next_event(dt_udp *u) { return dtu_watch_event(u) || dtu_events_next(u, u->event_room); }
 
 static bool next_failure(dt_udp *u) {
     if (u->failed == 0) return false;
@@ -205,15 +216,16 @@ const struct dt_udp_event *dt_udp_next_event(dt_udp *u, int wait_ms) {
     free(u->lent);
     u->lent = NULL;
     dtu_objects_release(u);
-    memset(&u->event, 0, sizeof u->event);
+    memset(&u->event, 0, sizeof u->event); /* (a forked child takes no event) */
     if (!dtu_is_usable(u)) { /* (what waits in a forked child is the parent's) */
         if (u->is_copy || !next_event(u)) next_failure(u);
         return &u->event;
     }
     uint64_t now = dtu_clock_ms(), end = wait_ms < 0 ? DT_NEVER : now + (uint64_t)wait_ms;
     u->interrupted = false;
-    for (bool looked = dtu_events_keep_up(u, now); !next_event(u) && !next_failure(u); looked = true) {
-        now = wait_ms > 0 ? dtu_clock_ms() : now;
+    bool looked = dtu_events_keep_up(u, now);
+    for (bool first = true; !next_event(u) && !next_failure(u); looked = true, first = false) {
+        if (wait_ms > 0 && !first) now = dtu_clock_ms();
         if (looked && !u->in.full && (u->interrupted || now >= end)) break;
         uint64_t left = end - now;
         dtu_loop_turn(u, u->in.full || now >= end ? 0 : left < INT32_MAX ? (int)left : -1);

@@ -16,7 +16,9 @@ enum {
     FEW_SEGMENTS = 8,
     BURST_SEGMENTS = 16,
     LONG_ABOVE = 6,  /* rounds above the aim after which others are taken to fill the queue */
-    NAMED = 4096     /* buckets */
+    NAMED = 4096,    /* buckets */
+    FLOWS = 4096,    /* buckets */
+    MOST_TRIED = 16  /* flows without room that are tried again at one time */
 };
 
 /* --- what is under way */
@@ -40,7 +42,7 @@ static void take_off(dt_udp *u, uint64_t octets) {
 /* Takes over what the node's counters say after an input that a peer caused, or nobody (null). */
 void dtu_govern_count(dt_udp *u, struct peer *peer) {
     struct governing *g = &u->governing;
-    if (!u->watching.on) return;
+    if (!g->on) return;
     uint64_t queued, settled;
     dtu_core_totals(&u->core, &queued, &settled);
     uint64_t more = queued - g->queued, less = settled - g->settled;
@@ -145,7 +147,7 @@ static bool is_paced(const dt_udp *u, struct watch *it, uint64_t octets, uint64_
 
 /* Whether so many octets for a peer may be handed in now. */
 bool dtu_govern_admits(dt_udp *u, struct peer *peer, uint64_t octets) {
-    struct watch *it = u->watching.on && peer ? dtu_watch_of(u, peer) : NULL;
+    struct watch *it = u->governing.on && peer ? dtu_watch_of(u, peer) : NULL;
     if (it == NULL) return true;
     uint64_t now_us = dtu_clock_us();
     halve_if_silent(it, now_us);
@@ -153,61 +155,112 @@ bool dtu_govern_admits(dt_udp *u, struct peer *peer, uint64_t octets) {
     return dt_watch_admits(it->rules, it->under_way, octets) && is_paced(u, it, octets, now_us);
 }
 
-/* --- what waits */
+/* --- flows for which something waits */
 
-static void enqueue(dt_udp *u, struct peer *peer, struct waiting *it) {
-    struct watch *w = peer->watch;
-    it->next = NULL;
-    if (w->last_waiting) w->last_waiting->next = it;
-    else {
-        w->first_waiting = it;
-        peer->next_waiting = u->governing.waiting;
-        u->governing.waiting = peer;
-    }
-    w->last_waiting = it;
-    u->governing.octets += sizeof *it + it->len;
-}
-
-/* Keeps octets until they may enter. Null: there is no room for more, and DT_UDP_EVENT_ROOM says when there is. */
-static struct waiting *new_waiting(dt_udp *u, const struct iovec *octets) {
-    struct waiting *it = NULL;
-    if (u->governing.octets + octets->iov_len <= u->options.max_waiting) it = malloc(sizeof *it + octets->iov_len);
-    if (it == NULL) {
-        u->governing.wants_room = true;
-        return NULL;
-    }
-    *it = (struct waiting){.len = octets->iov_len};
-    memcpy(it->octets, octets->iov_base, octets->iov_len);
+/* Where the calls that wait of a flow are, or the replies to requests of one. */
+static struct waiting_flow **flow_at(const dt_udp *u, const struct dt_flow *flow, bool has_replies) {
+    uint64_t value = (uint64_t)(flow->source ^ flow->target) << 32 | (uint32_t)flow->source_port << 16 | flow->target_port;
+    struct waiting_flow **it = &u->governing.flows[(value * u->peers.key >> 40) % FLOWS];
+    while (*it && ((*it)->has_replies != has_replies || memcmp(&(*it)->flow, flow, sizeof *flow) != 0))
+        it = &(*it)->next_there;
     return it;
 }
 
-/* Whether a message for a peer has to wait: others wait already, or it may not enter. */
-bool dtu_govern_waits(dt_udp *u, struct peer *peer, uint64_t octets) {
-    if (!u->watching.on || peer == NULL) return false;
-    return (peer->watch && peer->watch->first_waiting) || !dtu_govern_admits(u, peer, octets);
+static void append(struct waiting_flows *list, struct waiting_flow *it) {
+    it->next = NULL;
+    if (list->last) list->last->next = it;
+    else list->first = it;
+    list->last = it;
+}
+
+static struct waiting_flow *take_first(struct waiting_flows *list) {
+    struct waiting_flow *it = list->first;
+    list->first = it->next;
+    if (it->next == NULL) list->last = NULL;
+    return it;
+}
+
+static bool has_waiting(const struct watch *w) { return w->ready.first || w->full.first; }
+
+/* The flow for which something of a peer waits, begun where there is none. Null: out of memory. */
+static struct waiting_flow *flow_of(dt_udp *u, struct peer *peer, const struct dt_flow *flow, bool has_replies) {
+    struct waiting_flow **place = flow_at(u, flow, has_replies), *it = *place;
+    if (it || (it = calloc(1, sizeof *it)) == NULL) return it;
+    it->flow = *flow;
+    it->has_replies = has_replies;
+    *place = it;
+    if (!has_waiting(peer->watch)) {
+        peer->next_waiting = u->governing.waiting;
+        u->governing.waiting = peer;
+    }
+    append(&peer->watch->ready, it);
+    u->governing.octets += sizeof *it;
+    return it;
+}
+
+/* Nothing of a flow waits any more. It is in no list. */
+static void drop_flow(dt_udp *u, struct waiting_flow *it) {
+    *flow_at(u, &it->flow, it->has_replies) = it->next_there;
+    u->governing.octets -= sizeof *it;
+    free(it);
+}
+
+static void enqueue(dt_udp *u, struct waiting_flow *flow, struct waiting *it) {
+    it->next = NULL;
+    if (flow->last) flow->last->next = it;
+    else flow->first = it;
+    flow->last = it;
+    u->governing.octets += sizeof *it + it->len;
+}
+
+/* --- what waits */
+
+/* Keeps octets until they may enter, behind what waits of their flow. False: there is no room for more, and
+ * DT_UDP_EVENT_ROOM is the event when there is. */
+static bool keep(dt_udp *u, struct peer *peer, const struct waiting *given, const struct iovec *octets) {
+    struct waiting *it = NULL;
+    struct waiting_flow *flow = NULL;
+    if (u->governing.octets + octets->iov_len <= u->options.max_waiting) it = malloc(sizeof *it + octets->iov_len);
+    if (it) flow = flow_of(u, peer, &given->token.flow, !given->is_call);
+    if (flow == NULL) {
+        free(it);
+        u->governing.wants_room = true;
+        return false;
+    }
+    *it = *given;
+    it->len = octets->iov_len;
+    memcpy(it->octets, octets->iov_base, octets->iov_len);
+    enqueue(u, flow, it);
+    if (it->deadline < u->governing.next_deadline) u->governing.next_deadline = it->deadline;
+    return true;
+}
+
+/* Whether a message has to wait: others of its flow wait already, or of flows that have room of their own, or it may not
+ * enter. A flow that is full holds up no other. */
+bool dtu_govern_waits(dt_udp *u, struct peer *peer, const struct dt_flow *flow, uint64_t octets) {
+    if (!u->governing.on || peer == NULL) return false;
+    struct watch *w = peer->watch;
+    if (w && (w->ready.first || (w->full.first && *flow_at(u, flow, flow->source != u->options.node)))) return true;
+    return !dtu_govern_admits(u, peer, octets);
 }
 
 struct dt_call_result dtu_govern_keep_call(dt_udp *u, struct peer *peer, const struct dt_flow *flow,
                                            const struct iovec *octets, uint32_t timeout_ms) {
     if (u->open_calls >= u->options.max_calls) return (struct dt_call_result){.status = DT_TOO_MANY_CALLS};
-    struct waiting *it = new_waiting(u, octets);
-    if (it == NULL) return (struct dt_call_result){.status = DT_FULL};
-    it->is_call = true;
-    it->flow = *flow;
-    it->number = ~u->governing.numbers++; /* (no life is so great that the library would give this number) */
-    it->deadline = dtu_clock_ms() + timeout_ms;
-    enqueue(u, peer, it);
+    /* (no life is so great that the library would give this number) */
+    struct waiting it = {.is_call = true,
+                         .token = {.call = ~u->governing.numbers, .flow = *flow},
+                         .deadline = dtu_clock_ms() + timeout_ms};
+    if (!keep(u, peer, &it, octets)) return (struct dt_call_result){.status = DT_FULL};
+    u->governing.numbers++;
     u->open_calls++;
-    return (struct dt_call_result){.status = DT_OK, .call = it->number};
+    return (struct dt_call_result){.status = DT_OK, .call = it.token.call};
 }
 
 struct dt_reply_result dtu_govern_keep_reply(dt_udp *u, struct peer *peer, const struct dt_token *token,
                                              const struct iovec *octets) {
-    struct waiting *it = new_waiting(u, octets);
-    if (it == NULL) return (struct dt_reply_result){.status = DT_FULL};
-    it->token = *token;
-    enqueue(u, peer, it);
-    return (struct dt_reply_result){.status = DT_OK};
+    bool kept = keep(u, peer, &(struct waiting){.token = *token, .deadline = DT_NEVER}, octets);
+    return (struct dt_reply_result){.status = kept ? DT_OK : DT_FULL};
 }
 
 /* --- the numbers of calls that waited */
@@ -223,7 +276,7 @@ uint64_t dtu_govern_number(dt_udp *u, uint64_t call) {
     if (u->governing.named == NULL) return call;
     struct waiting **place = named_at(u, call), *it = *place;
     if (it == NULL) return call;
-    uint64_t number = it->number;
+    uint64_t number = it->token.call;
     *place = it->next;
     free(it);
     return number;
@@ -242,7 +295,7 @@ bool dtu_govern_event(dt_udp *u) {
         u->governing.first_unsure = it->next;
         if (it->next == NULL) u->governing.last_unsure = NULL;
         u->event.kind = DT_UDP_EVENT_UNSURE;
-        u->event.call = it->number;
+        u->event.call = it->token.call;
         u->event.cause = DT_CAUSE_TIMEOUT;
         u->open_calls -= u->open_calls > 0;
         free(it);
@@ -256,52 +309,108 @@ bool dtu_govern_event(dt_udp *u) {
 
 /* --- letting in */
 
-static bool enter_call(dt_udp *u, struct waiting *it, uint64_t now) {
+enum entry { ENTERED, FLOW_IS_FULL, NOT_NOW };
+
+static enum entry enter_call(dt_udp *u, struct waiting *it, uint64_t now) {
     if (it->deadline <= now) {
         end_unsure(u, it);
-        return true;
+        return ENTERED;
     }
-    struct dt_call_result made = dtu_core_call(&u->core, now, &it->flow, &(struct iovec){it->octets, it->len},
+    struct dt_call_result made = dtu_core_call(&u->core, now, &it->token.flow, &(struct iovec){it->octets, it->len},
                                                (uint32_t)(it->deadline - now));
-    if (made.status == DT_FULL || made.status == DT_QUIET || made.status == DT_TOO_MANY_CALLS) return false;
+    if (made.status == DT_FULL) return FLOW_IS_FULL;
+    if (made.status == DT_QUIET || made.status == DT_TOO_MANY_CALLS) return NOT_NOW;
     if (made.status != DT_OK) {
         end_unsure(u, it);
-        return true;
+        return ENTERED;
     }
     it->call = made.call;
     struct waiting *named = realloc(it, sizeof *it); /* (its octets aren't needed any more) */
     if (named) it = named;
     it->next = u->governing.named[it->call % NAMED];
     u->governing.named[it->call % NAMED] = it;
-    return true;
+    return ENTERED;
 }
 
-static bool enter_reply(dt_udp *u, struct waiting *it, uint64_t now) {
-    if (dtu_core_reply(&u->core, now, &it->token, &(struct iovec){it->octets, it->len}).status == DT_FULL) return false;
+static enum entry enter_reply(dt_udp *u, struct waiting *it, uint64_t now) {
+    struct iovec octets = {it->octets, it->len};
+    if (dtu_core_reply(&u->core, now, &it->token, &octets).status == DT_FULL) return FLOW_IS_FULL;
     free(it);
-    return true;
+    return ENTERED;
 }
 
-/* Hands in what waits for a peer, as much as may enter. False: nothing waits any more. */
+/* Hands in the first one that waits of a flow, if it may enter. */
+static enum entry enter_first(dt_udp *u, struct peer *peer, struct waiting_flow *flow, uint64_t us) {
+    struct waiting *it = flow->first, *next = it->next;
+    uint64_t len = it->len, now = us / 1000;
+    if (it->deadline > now && !dtu_govern_admits(u, peer, len)) return NOT_NOW;
+    if (!dtu_begin(u, us)) return NOT_NOW;
+    enum entry how = it->is_call ? enter_call(u, it, now) : enter_reply(u, it, now);
+    dtu_judge(u);
+    if (how == FLOW_IS_FULL) peer->watch->governor.credit += (int64_t)len; /* (nothing left, so it takes no pace) */
+    if (how != ENTERED) return how;
+    flow->first = next;
+    if (next == NULL) flow->last = NULL;
+    u->governing.octets -= sizeof *it + len;
+    dtu_govern_count(u, peer);
+    return ENTERED;
+}
+
+/* Something was settled since flows were full: some of them are tried again, the one first that waited for longest. */
+static void try_full(dt_udp *u, struct watch *w) {
+    if (w->full.first == NULL || w->full_at == u->governing.settled) return;
+    for (int i = 0; i < MOST_TRIED && w->full.first; i++) append(&w->ready, take_first(&w->full));
+}
+
+/* Hands in what waits for a peer, as much as may enter: of each flow one in its turn. False: nothing waits any more. */
 static bool enter_all(dt_udp *u, struct peer *peer, uint64_t us) {
     struct watch *w = peer->watch;
-    uint64_t now = us / 1000;
-    while (w->first_waiting) {
-        struct waiting *it = w->first_waiting, *next = it->next;
-        size_t octets = sizeof *it + it->len;
-        bool over = it->is_call && it->deadline <= now;
-        if (!over && !dtu_govern_admits(u, peer, it->len)) return true;
-        if (!over && !dtu_begin(u, us)) return true;
-        bool entered = it->is_call ? enter_call(u, it, now) : enter_reply(u, it, now);
-        dtu_judge(u);
-        if (u->failed) return true;
-        if (!entered) return true;
-        w->first_waiting = next;
-        if (next == NULL) w->last_waiting = NULL;
-        u->governing.octets -= octets;
-        dtu_govern_count(u, peer);
+    try_full(u, w);
+    while (w->ready.first) {
+        enum entry how = enter_first(u, peer, w->ready.first, us);
+        if (how == NOT_NOW || u->failed) return true;
+        struct waiting_flow *flow = take_first(&w->ready);
+        if (how == FLOW_IS_FULL) {
+            append(&w->full, flow);
+            w->full_at = u->governing.settled;
+        } else if (flow->first) append(&w->ready, flow);
+        else drop_flow(u, flow);
     }
-    return false;
+    return w->full.first != NULL;
+}
+
+/* Ends the calls of a list whose time is over, and takes out the flows of which nothing is left. */
+static void end_late_of(dt_udp *u, struct waiting_flows *list, uint64_t now) {
+    struct waiting_flows left = {NULL, NULL};
+    while (list->first) {
+        struct waiting_flow *flow = take_first(list);
+        struct waiting *last = NULL;
+        for (struct waiting **place = &flow->first, *it; (it = *place) != NULL;) {
+            if (it->deadline > now) {
+                if (it->deadline < u->governing.next_deadline) u->governing.next_deadline = it->deadline;
+                last = it;
+                place = &it->next;
+                continue;
+            }
+            *place = it->next;
+            u->governing.octets -= sizeof *it + it->len;
+            end_unsure(u, it);
+        }
+        flow->last = last;
+        if (last) append(&left, flow);
+        else drop_flow(u, flow);
+    }
+    *list = left;
+}
+
+/* Ends the calls whose time is over. All that waits is looked at only when the first one is due. */
+static void end_late(dt_udp *u, uint64_t now) {
+    if (now < u->governing.next_deadline) return;
+    u->governing.next_deadline = DT_NEVER;
+    for (struct peer *it = u->governing.waiting; it; it = it->next_waiting) {
+        end_late_of(u, &it->watch->ready, now);
+        end_late_of(u, &it->watch->full, now);
+    }
 }
 
 /* Hands in what waits and may enter now. */
@@ -309,6 +418,7 @@ void dtu_govern_release(dt_udp *u) {
     struct peer **place = &u->governing.waiting;
     if (*place == NULL || u->failed) return;
     uint64_t us = dtu_clock_us();
+    end_late(u, us / 1000);
     while (*place) {
         struct peer *it = *place;
         if (enter_all(u, it, us)) place = &it->next_waiting;
@@ -325,9 +435,13 @@ uint64_t dtu_govern_wake(const dt_udp *u, uint64_t now) {
 /* --- opening and closing */
 
 dt_status dtu_govern_open(dt_udp *u) {
-    if (!u->watching.on || u->options.role != DT_UDP_ROLE_SERVICE) return DT_OK;
-    u->governing.named = calloc(NAMED, sizeof *u->governing.named);
-    return u->governing.named ? DT_OK : DT_NO_MEMORY;
+    struct governing *g = &u->governing;
+    g->on = u->watching.on && !u->core.driven;
+    g->next_deadline = DT_NEVER;
+    if (!g->on || u->options.role != DT_UDP_ROLE_SERVICE) return DT_OK;
+    g->named = calloc(NAMED, sizeof *g->named);
+    g->flows = calloc(FLOWS, sizeof *g->flows);
+    return g->named && g->flows ? DT_OK : DT_NO_MEMORY;
 }
 
 static void free_all(struct waiting *it) {
@@ -337,26 +451,48 @@ static void free_all(struct waiting *it) {
     }
 }
 
-void dtu_govern_free(struct watch *watch) { free_all(watch->first_waiting); }
+static void free_flows(struct waiting_flows *list) {
+    while (list->first) {
+        struct waiting_flow *it = take_first(list);
+        free_all(it->first);
+        free(it);
+    }
+}
+
+/* Frees what waits for a peer; it is in no bucket any more, or the buckets aren't used any more. */
+void dtu_govern_free(struct watch *watch) {
+    free_flows(&watch->ready);
+    free_flows(&watch->full);
+}
+
+/* Ends the calls that wait in a list, and drops the replies. */
+static void drop_all(dt_udp *u, struct waiting_flows *list) {
+    while (list->first) {
+        struct waiting_flow *flow = take_first(list);
+        for (struct waiting *it = flow->first, *next; it; it = next) {
+            next = it->next;
+            u->governing.octets -= sizeof *it + it->len;
+            if (it->is_call) end_unsure(u, it);
+            else free(it);
+        }
+        drop_flow(u, flow);
+    }
+}
 
 /* A peer goes: calls that wait for it end. */
 void dtu_govern_drop(dt_udp *u, struct peer *peer) {
     struct watch *w = peer->watch;
-    if (w == NULL || w->first_waiting == NULL) return;
+    if (w == NULL || !has_waiting(w)) return;
     struct peer **place = &u->governing.waiting;
     while (*place != peer) place = &(*place)->next_waiting;
     *place = peer->next_waiting;
-    for (struct waiting *it = w->first_waiting, *next; it; it = next) {
-        next = it->next;
-        u->governing.octets -= sizeof *it + it->len;
-        if (it->is_call) end_unsure(u, it);
-        else free(it);
-    }
-    w->first_waiting = w->last_waiting = NULL;
+    drop_all(u, &w->ready);
+    drop_all(u, &w->full);
 }
 
 void dtu_govern_close(dt_udp *u) {
     for (size_t i = 0; u->governing.named && i < NAMED; i++) free_all(u->governing.named[i]);
     free(u->governing.named);
+    free(u->governing.flows);
     free_all(u->governing.first_unsure);
 }

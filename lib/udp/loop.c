@@ -47,7 +47,8 @@ static uint64_t wake_of(dt_udp *u, uint64_t now) {
     uint64_t objects = dtu_objects_wake(u);
     if (greets < wake) wake = greets;
     if (objects < wake) wake = objects;
-    if (dtu_govern_wake(u, now) < wake) wake = dtu_govern_wake(u, now);
+    uint64_t governor = dtu_govern_wake(u, now);
+    if (governor < wake) wake = governor;
     if (!u->stamps && wake > now + BLIND_WAKE_MS) wake = now + BLIND_WAKE_MS;
     return wake > now
                ? wake
@@ -87,7 +88,7 @@ void dtu_loop_turn(dt_udp *u, int wait_ms) {
         if (wait_ms < 0 || left < (uint64_t)wait_ms) wait_ms = left < LONGEST_WAIT_MS ? (int)left : LONGEST_WAIT_MS;
     }
     dtu_read_socket(u, wait_ms);
-    uint64_t us = dtu_clock_us();
+    uint64_t us = u->in.came_us;
     u->turned_at = us / 1000;
     dtu_strangers_greet(u, us / 1000);
     tick(u, us);

@@ -24,6 +24,7 @@ enum {
     LEAST_CHUNK = 16,  /* so that the bits of an object are few */
     ASK_MS = 100,      /* a question is asked again after this, and 4 rto, at least */
     IDLE_MS = 60000,   /* a part of an object to which nothing was added for so long is dropped */
+    FEWEST_LONG = 64,  /* chunks of a long object */
     MAX_FLIGHT = 64    /* chunks under way in one lane */
 };
 
@@ -219,8 +220,29 @@ static struct sending *has_chunk(const struct target *to) {
     return NULL;
 }
 
+static bool all_sent(const struct sending *it) {
+    return it->begun == it->total && it->again_count == 0 && it->under_way == 0;
+}
+
+/* Whether an object waits until its target has answered. A stranger's first datagrams are lost, since it has to prove
+ * that it hears: of a long object that is a question alone, since a window that begins with losses grows slowly. */
+static bool waits_for_answer(const dt_udp *u, const struct sending *it) {
+    if (it->begun || it->is_over || it->total < FEWEST_LONG || !u->watching.on) return false;
+    const struct peer *peer = dtu_peers_find(&u->peers, it->to->node);
+    return peer && !peer->answered;
+}
+
+/* Whether the target is asked about an object, when its `ask_at` has come. */
+static bool asks(const dt_udp *u, const struct sending *it) {
+    return !it->is_over && (all_sent(it) || waits_for_answer(u, it));
+}
+
+/* Whether objects behind this one in the queue of its target can have been begun. */
+static bool is_begun(const struct sending *it) { return it->begun || it->total == 0 || it->is_over; }
+
 /* Whether a chunk of an object may be handed in now, by what is under way to its target. */
 static bool may_enter(dt_udp *u, const struct sending *it) {
+    if (waits_for_answer(u, it)) return false;
     bool may = dtu_govern_admits(u, dtu_peers_find(&u->peers, it->to->node), it->chunk);
     if (!may) u->governing.object_waits = true;
     return may;
@@ -266,10 +288,6 @@ static void ask(dt_udp *u, struct sending *it, uint64_t now) {
                   &(struct iovec){u->objects.room, HEAD}); /* (or it is asked again) */
 }
 
-static bool all_sent(const struct sending *it) {
-    return it->begun == it->total && it->again_count == 0 && it->under_way == 0;
-}
-
 /* Ends the objects whose time is over. All are looked at only when the first one is due. */
 static void end_late(dt_udp *u, uint64_t now) {
     if (now < u->objects.next_deadline) return;
@@ -305,8 +323,8 @@ bool dtu_objects_send(dt_udp *u) {
     adapt(u, now);
     for (struct target *to = u->objects.targets; to; to = to->next) {
         fill(u, to, &left);
-        for (struct sending *it = to->first; it && (it->begun || it->total == 0 || it->is_over); it = it->next)
-            if (!it->is_over && all_sent(it) && now >= it->ask_at) ask(u, it, now);
+        for (struct sending *it = to->first; it; it = is_begun(it) ? it->next : NULL)
+            if (asks(u, it) && now >= it->ask_at) ask(u, it, now);
     }
     dtu_events_collect(u, now);
     return left == 0;
@@ -317,8 +335,8 @@ uint64_t dtu_objects_wake(const dt_udp *u) {
     if (u->objects.sending == 0) return DT_NEVER;
     uint64_t wake = u->objects.next_deadline;
     for (const struct target *to = u->objects.targets; to; to = to->next)
-        for (const struct sending *it = to->first; it && (it->begun || it->total == 0 || it->is_over); it = it->next)
-            if (!it->is_over && all_sent(it) && it->ask_at < wake) wake = it->ask_at;
+        for (const struct sending *it = to->first; it; it = is_begun(it) ? it->next : NULL)
+            if (it->ask_at < wake && asks(u, it)) wake = it->ask_at;
     return wake;
 }
 

@@ -145,6 +145,7 @@ static dt_status open_all(dt_udp *u, const struct dt_udp_options *options, struc
     u->opened = dtu_clock_reading();
     dtu_clock_was_empty(u, &u->opened);
     u->ahead_ns = u->opened.wall - u->opened.boot;
+    u->driven.drained_us = (uint64_t)u->opened.boot / 1000;
     if (!u->core.driven) status = open_core(u, error);
     u->options.host = u->options.port = u->options.state = NULL; /* (they are the caller's) */
     return status;
@@ -160,6 +161,8 @@ dt_udp *dtu_open(const struct dt_udp_driven *driven, const struct dt_udp_options
         u->core = (struct core){
             .node = driven->node, .service = driven->service, .hooks = driven->hooks, .driven = true};
         u->driven.keeper = driven->keeper;
+        u->driven.links = driven->links;
+        u->driven.link_count = driven->link_count;
     }
     u->socket = u->epoll = u->timer = u->state.folder = u->state.lock = u->state.last = -1;
     u->armed_at = u->out.made_at = DT_NEVER;
@@ -184,6 +187,7 @@ void dt_udp_close(dt_udp *u) {
     dtu_strangers_close(u);
     dtu_watch_close(u);
     dtu_govern_close(u);
+    dtu_calls_close(u);
     dtu_driven_close(u);
     dtu_peers_close(&u->peers);
     dtu_loop_close(u);

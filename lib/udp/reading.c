@@ -11,6 +11,8 @@
 enum {
     MADE_BY = 8,           /* where a Deltagram's header names the node that made it */
     MAKER_LEN = 4,
+    LIFE_AT = 4, /* and where its lifetime is, in ms */
+    LIFE_LEN = 4,
     READ_CLOCK_EVERY = 16, /* datagrams */
     FLUSH_MS = 5,          /* frames that wait for longer are sent before more is passed in */
     BLIND_MS = 4 /* without stamps a look waits no longer, since a datagram may have waited as long as the look */
@@ -87,13 +89,18 @@ bool dtu_is_from(struct peer *peer, const struct address *from) {
     return false;
 }
 
+/* Whether a frame has no lifetime left: the node drops it. Its status says so only if `waited_ms` is all of its life. */
+static bool is_too_old(const struct arrival *it) {
+    return it->len >= HEADER && dtu_get_number(it->octets + LIFE_AT, LIFE_LEN) <= (uint64_t)it->charge + it->waited_ms;
+}
+
 /* Passes one datagram in, of a peer or of a stranger (null); whether the node took it. What of it becomes readable is read at once, so that
  * acknowledgements say how much room there is. */
 bool dtu_pass_in(dt_udp *u, struct peer *peer, const struct arrival *it) {
     if (!dtu_begin(u, it->at_us)) return false;
     dt_status status = dtu_core_receive(&u->core, it->at, it->octets, it->len, it->waited_ms);
     bool taken = status == DT_OK;
-    if (status == DT_EXPIRED) u->counts.too_old++;
+    if (is_too_old(it)) u->counts.too_old++;
     if (taken) u->heard_at = it->at;
     dtu_judge(u);
     dtu_events_collect(u, it->at);
@@ -104,21 +111,44 @@ bool dtu_pass_in(dt_udp *u, struct peer *peer, const struct arrival *it) {
 /* Passes in a frame of a peer, of which it is known how long it waited. */
 void dtu_take_frame(dt_udp *u, struct peer *peer, const struct arrival *it) {
     uint64_t old = u->counts.too_old;
-    if (!dtu_pass_in(u, peer, it)) {
-        if (u->counts.too_old > old) dtu_watch_ask(u, peer, it);
-        return;
-    }
+    bool taken = true;
+    if (u->core.driven) dtu_driven_take(u, peer, it);
+    else taken = dtu_pass_in(u, peer, it);
+    if (u->counts.too_old > old) dtu_watch_ask(u, peer, it);
+    if (!taken || u->core.driven) return;
     peer->heard = peer->answered = true;
     peer->heard_at = it->at;
     if (it->own.family) peer->own = it->own;
     dtu_strangers_heard(u, peer);
 }
 
-/* Takes a datagram of a node that its program opened, which has no watch. */
+/* The node that a frame's header names as its maker; 0: it has no header. */
+static uint32_t maker_of(const struct arrival *it) {
+    return it->len < HEADER ? 0 : (uint32_t)dtu_get_number(it->octets + MADE_BY, MAKER_LEN);
+}
+
+/* Whether a datagram has what belongs behind it: a trailer, or none. If a peer has a watch and this end hasn't, or the
+ * other way round, that is an alarm, once for each peer. */
+static bool is_fit(dt_udp *u, struct arrival *it) {
+    if (u->watching.on ? dtu_watch_strip(u, it) : !dtu_watch_has_trailer(it)) return true;
+    if (!u->watching.on) u->counts.with_trailer++;
+    struct peer *peer = u->core.driven ? dtu_driven_neighbour(u, it->from) : dtu_peers_find(&u->peers, maker_of(it));
+    if (peer && dtu_same_address(&peer->at, it->from)) dtu_watch_differs(u, peer);
+    return false;
+}
+
+/* Takes a datagram of a node that its program opened: it has to come from a neighbour. */
 static void receive_driven(dt_udp *u, struct arrival *it) {
-    if (dtu_is_control(u, it)) return;
-    it->maker = it->len < HEADER ? 0 : (uint32_t)dtu_get_number(it->octets + MADE_BY, MAKER_LEN);
-    dtu_driven_receive(u, it);
+    struct peer *peer = dtu_driven_neighbour(u, it->from);
+    if (peer == NULL) {
+        u->counts.unknown++;
+        return;
+    }
+    if (!is_fit(u, it)) return;
+    bool bare = dtu_watch_is_bare(u, it);
+    if (!bare && dtu_is_control(u, it)) return;
+    it->maker = bare ? 0 : maker_of(it);
+    dtu_driven_receive(u, peer, it);
 }
 
 /* Takes a datagram: one of the drivers' own, or a frame that came from its maker's address. */
@@ -128,14 +158,15 @@ static void receive(dt_udp *u, struct arrival *it) {
         receive_driven(u, it);
         return;
     }
-    if (!dtu_watch_strip(u, it)) return;
+    if (!is_fit(u, it)) return;
     bool bare = dtu_watch_is_bare(u, it);
     if (!bare && dtu_is_control(u, it)) return;
     if (it->len < (bare ? MAKER_LEN : HEADER)) {
         u->counts.unknown++;
         return;
     }
-    it->maker = (uint32_t)dtu_get_number(it->octets + (bare ? 0 : MADE_BY), MAKER_LEN);
+    it->hop = it->maker = (uint32_t)dtu_get_number(it->octets + (bare ? 0 : MADE_BY), MAKER_LEN);
+    it->charge = u->options.charge;
     struct peer *peer = dtu_peers_find(&u->peers, it->maker);
     bool is_peers = peer && dtu_is_from(peer, it->from);
     if (bare && !is_peers) u->counts.unknown++;

@@ -16,7 +16,6 @@
  *   events.c    what dt_udp_next_event returns
  *   calls.c     what a program asks of the node
  *   objects.c   objects, in chunks over several flows
- *   octets.c    numbers in octets
  *   driven.c    nodes that the program opened: neighbours, hooks, the keeper
  *   batch.c     many events at once
  */
@@ -79,16 +78,28 @@ struct trailer {
     uint8_t kind, round, rounded;
 };
 
-/* A call or a reply that waits until it may be handed in; of a call that was, its number only. */
+/* A call or a reply that waits until it may be handed in; of a call that was, its numbers only. */
 struct waiting {
     struct waiting *next;
-    uint64_t number, call; /* of a call: as the program knows it, and as the library does */
-    uint64_t deadline;
-    struct dt_flow flow;
-    struct dt_token token;
+    struct dt_token token; /* of a call: its flow, and its number as the program knows it */
+    uint64_t call;         /* and as the library does */
+    uint64_t deadline;     /* of a reply: DT_NEVER */
     size_t len;
     bool is_call;
     uint8_t octets[];
+};
+
+/* Calls of one flow, or replies on it, that wait, in their order. */
+struct waiting_flow {
+    struct waiting_flow *next;       /* in the peer's list */
+    struct waiting_flow *next_there; /* in its bucket */
+    struct waiting *first, *last;
+    struct dt_flow flow;
+    bool has_replies; /* or else calls */
+};
+
+struct waiting_flows {
+    struct waiting_flow *first, *last;
 };
 
 /* How the window of a peer follows the delay; times are microseconds. */
@@ -108,7 +119,9 @@ struct watch {
     uint64_t present, next; /* the names of its present opening, and of one that isn't proved; 0: none */
     uint64_t pinged_us;     /* when it was last asked */
     uint64_t under_way;     /* octets that were handed in and aren't settled */
-    struct waiting *first_waiting, *last_waiting;
+    struct waiting_flows ready;    /* flows for which something waits for the window, each in its turn */
+    struct waiting_flows full;     /* those that had no room of their own when so many octets were settled: */
+    uint64_t full_at;
     struct governor governor;
     uint16_t sent, heard, its_heard;
     uint16_t aged;          /* what it is told of its last datagram */
@@ -145,13 +158,24 @@ struct watching {
 struct governing {
     struct peer *waiting;                        /* those for which something waits */
     struct waiting *first_unsure, *last_unsure;  /* calls whose time was over before they were handed in */
+    struct waiting_flow **flows;                 /* those of all peers, by flow */
     struct waiting **named;                      /* calls that waited, by the library's numbers */
+    uint64_t next_deadline;                      /* of the calls that wait: that of the first one, or sooner */
     uint64_t queued, settled;                    /* the node's counters at the last look */
     uint64_t counted;                            /* octets under way, of all peers */
     uint64_t octets, numbers;                    /* of what waits; of calls that waited */
+    bool on;                                     /* (not for a driven node: its program hands in by itself) */
     bool wants_room;                             /* something was refused for want of room */
     bool object_waits;                           /* a chunk may not enter yet */
 };
+
+/* The user of a call that waited: the governor, and so the library, knows the call by its number. */
+struct user {
+    struct user *next; /* in its bucket */
+    uint64_t call, user;
+};
+
+enum { USERS = 1024 };
 
 struct peer {
     struct peer *next; /* in its bucket */
@@ -167,11 +191,13 @@ struct peer {
     uint64_t proved_at; /* when it last asked us to prove our address */
     uint64_t key;       /* of a learnt peer: of its opening */
     uint16_t link; /* of a neighbour */
+    uint32_t charge; /* of that link */
     uint32_t node, too_big; /* too_big: octets of a datagram that didn't fit the path, to be reported, or 0 */
     bool configured;        /* by dt_udp_set_peer */
     bool heard;             /* from `at`: no other address of its name is tried */
     bool answered;          /* a datagram of it was passed in */
     bool is_prover;         /* it asked us for a proof once */
+    bool differs;           /* one of the two ends has a watch, and the other hasn't: it was an alarm */
     uint8_t choice, choices;
     struct address others[MAX_ADDRESSES]; /* the addresses of its name, `choices` in number */
 };
@@ -222,6 +248,8 @@ struct arrival {
     const struct address *from;
     struct own_address own;
     uint32_t maker; /* the node that its header names */
+    uint32_t hop;   /* the node at whose address it began: that one, or a neighbour */
+    uint32_t charge; /* of the link on which it came */
     uint32_t waited_ms;
     uint64_t at;      /* the reading by which it is passed in, in ms */
     uint64_t at_us;   /* and in us */
@@ -247,7 +275,10 @@ struct driven {
     struct peer **there;   /* neighbours by address: `size` buckets, a power of 2; null: none */
     size_t count, size;
     struct peer *hop;      /* the neighbour on a link that was looked for last */
+    const struct dt_link *links; /* of the node, `link_count` of them */
+    size_t link_count;
     uint64_t lost;         /* frames that weren't sent, as far as the hooks know */
+    uint64_t drained_us;   /* read before the node was last asked for all that leaves */
     uint32_t heard[DT_UDP_MAX_HEARD]; /* makers of what was passed in since the last batch */
     uint32_t heard_count;
     bool blocked;          /* the guard dropped a datagram since then */
@@ -351,6 +382,7 @@ struct dt_udp {
     struct objects objects;
     struct watching watching;
     struct governing governing;
+    struct user **users;   /* USERS buckets by the number of the call; null: there was none yet */
     struct queue queue;
     struct reports reports;
     struct message *lent;  /* what the last event points to */
@@ -400,6 +432,8 @@ struct dt_send_result dtu_core_send(struct core *core, uint64_t now, const struc
                                     const struct iovec *octets);
 struct dt_call_result dtu_core_call(struct core *core, uint64_t now, const struct dt_flow *flow,
                                     const struct iovec *octets, uint32_t timeout_ms);
+struct dt_call_result dtu_core_make_call(struct core *core, uint64_t now, const struct dt_udp_call_options *options,
+                                         const struct iovec *octets);
 struct dt_reply_result dtu_core_reply(struct core *core, uint64_t now, const struct dt_token *token,
                                       const struct iovec *octets);
 dt_status dtu_core_forget(struct core *core, uint64_t now, const struct dt_token *token);
@@ -459,9 +493,16 @@ void dtu_objects_report(dt_udp *u, const struct dt_report *report);
 bool dtu_objects_message(dt_udp *u, const struct dt_flow *flow, const uint8_t *octets, size_t len);
 bool dtu_objects_event(dt_udp *u);
 
-/* --- octets.c */
-void dtu_put_number(uint8_t *at, uint64_t value, int octets);
-uint64_t dtu_get_number(const uint8_t *at, int octets);
+/* --- numbers in octets, the most significant one first; here, since each datagram has a dozen */
+static inline void dtu_put_number(uint8_t *at, uint64_t value, int octets) {
+    for (int i = octets - 1; i >= 0; i--, value >>= 8) at[i] = (uint8_t)value;
+}
+
+static inline uint64_t dtu_get_number(const uint8_t *at, int octets) {
+    uint64_t value = 0;
+    for (int i = 0; i < octets; i++) value = value << 8 | at[i];
+    return value;
+}
 
 /* --- clocks.c */
 uint64_t dtu_clock_ms(void);
@@ -485,11 +526,14 @@ void dtu_watch_free(struct watch *watch);
 void dtu_watch_stamp(dt_udp *u, struct peer *peer, struct iovec *frame);
 size_t dtu_watch_stamp_own(dt_udp *u, const struct watch *watch, uint8_t *octets, size_t len);
 bool dtu_watch_strip(dt_udp *u, struct arrival *arrival);
+void dtu_watch_differs(dt_udp *u, struct peer *peer);
 bool dtu_watch_is_bare(const dt_udp *u, const struct arrival *arrival);
 bool dtu_watch_takes(dt_udp *u, struct watch **place, struct arrival *arrival);
 void dtu_watch_hear(dt_udp *u, struct watch **place, const struct arrival *arrival);
 void dtu_watch_bare(dt_udp *u, struct peer *peer, const struct arrival *arrival);
 void dtu_watch_ask(dt_udp *u, struct peer *peer, const struct arrival *arrival);
+bool dtu_watch_has_trailer(const struct arrival *arrival);
+bool dtu_watch_alarm(dt_udp *u, struct watch_alarm *out);
 bool dtu_watch_event(dt_udp *u);
 
 struct watch *dtu_watch_of(dt_udp *u, struct peer *peer);
@@ -503,7 +547,7 @@ void dtu_govern_begin(struct governor *governor, uint64_t now_us);
 void dtu_govern_heard(dt_udp *u, struct watch *watch, const struct trailer *trailer, uint64_t now_us);
 void dtu_govern_count(dt_udp *u, struct peer *peer);
 bool dtu_govern_admits(dt_udp *u, struct peer *peer, uint64_t octets);
-bool dtu_govern_waits(dt_udp *u, struct peer *peer, uint64_t octets);
+bool dtu_govern_waits(dt_udp *u, struct peer *peer, const struct dt_flow *flow, uint64_t octets);
 struct dt_call_result dtu_govern_keep_call(dt_udp *u, struct peer *peer, const struct dt_flow *flow,
                                            const struct iovec *octets, uint32_t timeout_ms);
 struct dt_reply_result dtu_govern_keep_reply(dt_udp *u, struct peer *peer, const struct dt_token *token,
@@ -512,6 +556,10 @@ uint64_t dtu_govern_number(dt_udp *u, uint64_t call);
 bool dtu_govern_event(dt_udp *u);
 void dtu_govern_release(dt_udp *u);
 uint64_t dtu_govern_wake(const dt_udp *u, uint64_t now);
+
+/* --- calls.c */
+uint64_t dtu_calls_user(dt_udp *u, uint64_t call);
+void dtu_calls_close(dt_udp *u);
 
 /* --- reading.c */
 dt_status dtu_reading_open(dt_udp *u);
@@ -532,7 +580,10 @@ void dtu_write_held(dt_udp *u, const struct peer *peer);
 void dtu_driven_close(dt_udp *u);
 void dtu_driven_begin(dt_udp *u);
 bool dtu_driven_note(dt_udp *u, uint64_t at);
-void dtu_driven_receive(dt_udp *u, struct arrival *arrival);
+void dtu_driven_receive(dt_udp *u, struct peer *peer, struct arrival *arrival);
+void dtu_driven_take(dt_udp *u, struct peer *peer, const struct arrival *arrival);
+struct peer *dtu_driven_neighbour(const dt_udp *u, const struct address *at);
+void dtu_driven_drained(dt_udp *u);
 struct peer *dtu_driven_next_hop(dt_udp *u);
 void dtu_driven_written(dt_udp *u);
 
@@ -545,6 +596,7 @@ void dtu_loop_turn(dt_udp *u, int wait_ms);
 dt_status dtu_events_open(dt_udp *u);
 void dtu_events_close(dt_udp *u);
 void dtu_events_collect(dt_udp *u, uint64_t at);
+bool dtu_events_next(dt_udp *u, uint8_t *room);
 bool dtu_events_keep_up(dt_udp *u, uint64_t now);
 
 #endif

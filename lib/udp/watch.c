@@ -72,6 +72,13 @@ void dtu_watch_close(dt_udp *u) {
     while (u->watching.kept) drop_first(&u->watching);
 }
 
+dt_status dt_udp_params_for(const struct dt_network *network, struct dt_params *params, uint32_t *charge) {
+    struct dt_network it = *network;
+    if (it.mtu >= TRAILER_LEN) it.mtu -= TRAILER_LEN;
+    if (it.hops) it.delay_us += 2 * (it.round_trip_us / it.hops + 1);
+    return dt_params_for(&it, params, charge);
+}
+
 /* --- of a peer */
 
 /* What is known of a peer, from now on. Null: out of memory. */
@@ -183,27 +190,54 @@ bool dtu_watch_strip(dt_udp *u, struct arrival *it) {
     return true;
 }
 
+/* Whether a datagram of an end that has no watch is a frame with a trailer behind it. */
+bool dtu_watch_has_trailer(const struct arrival *it) {
+    struct trailer t;
+    return it->len > HEADER + TRAILER_LEN && it->octets[0] <= 2 &&
+           HEADER + dtu_get_number(it->octets + 2, 2) + TRAILER_LEN == it->len &&
+           dtu_trailer_read(it->octets + it->len - TRAILER_LEN, &t);
+}
+
 /* Whether a datagram is bare: its sender asks or answers, and there is no frame. */
 bool dtu_watch_is_bare(const dt_udp *u, const struct arrival *it) {
     return u->watching.on && it->trailer.kind != TRAILER_FRAME;
 }
 
-static void alarm_of(dt_udp *u, struct watch *it, uint32_t node, uint8_t cause) {
-    if (it->alarms >> cause & 1) return; /* (once for each opening) */
-    it->alarms |= (uint8_t)(1 << cause);
+static void ring(dt_udp *u, uint32_t node, uint8_t cause) {
     struct watching *w = &u->watching;
     if (w->alarm_count == MAX_ALARMS) return; /* (the counters have them) */
     w->alarms[(w->first_alarm + w->alarm_count++) % MAX_ALARMS] = (struct watch_alarm){node, cause};
 }
 
-bool dtu_watch_event(dt_udp *u) {
+static void alarm_of(dt_udp *u, struct watch *it, uint32_t node, uint8_t cause) {
+    if (it->alarms >> cause & 1) return; /* (once for each opening) */
+    it->alarms |= (uint8_t)(1 << cause);
+    ring(u, node, cause);
+}
+
+/* Of this end and the peer, one has a watch and the other hasn't. */
+void dtu_watch_differs(dt_udp *u, struct peer *peer) {
+    if (peer->differs) return;
+    peer->differs = true;
+    ring(u, peer->node, DT_UDP_ALARM_WATCH);
+}
+
+/* Takes the alarm that waits for longest. False: there is none. */
+bool dtu_watch_alarm(dt_udp *u, struct watch_alarm *out) {
     struct watching *w = &u->watching;
     if (w->alarm_count == 0) return false;
-    u->event.kind = DT_UDP_EVENT_ALARM;
-    u->event.peer = w->alarms[w->first_alarm].node;
-    u->event.cause = w->alarms[w->first_alarm].cause;
+    *out = w->alarms[w->first_alarm];
     w->first_alarm = (w->first_alarm + 1) % MAX_ALARMS;
     w->alarm_count--;
+    return true;
+}
+
+bool dtu_watch_event(dt_udp *u) {
+    struct watch_alarm it;
+    if (!dtu_watch_alarm(u, &it)) return false;
+    u->event.kind = DT_UDP_EVENT_ALARM;
+    u->event.peer = it.node;
+    u->event.cause = it.cause;
     return true;
 }
 
@@ -232,7 +266,7 @@ static enum watched hear(dt_udp *u, struct watch *it, const struct arrival *a, b
     const struct trailer *t = &a->trailer;
     if (t->print != u->watching.print) {
         u->counts.other_parameters++;
-        alarm_of(u, it, a->maker, DT_UDP_ALARM_PARAMETERS);
+        alarm_of(u, it, a->hop, DT_UDP_ALARM_PARAMETERS);
         return WATCHED_DROPPED;
     }
     bool known = t->opening == it->present;
@@ -244,7 +278,7 @@ static enum watched hear(dt_udp *u, struct watch *it, const struct arrival *a, b
     struct dt_passage passage = {.made = t->made, .sure = sure_of(u, t), .came = a->came_us};
     if (dt_watch_hear(it->rules, *second, &passage) != DT_OK) {
         u->counts.clock_alarms++;
-        if (known) alarm_of(u, it, a->maker, DT_UDP_ALARM_CLOCK);
+        if (known) alarm_of(u, it, a->hop, DT_UDP_ALARM_CLOCK);
         return WATCHED_DROPPED;
     }
     dt_status judged = judge(u, it, a, is_frame);
@@ -271,7 +305,7 @@ static bool age(dt_udp *u, struct watch *it, struct arrival *a) {
     if (sure == 0 || sure > a->came_us) return false;
     uint64_t aged = (a->came_us - sure) / AGED_UNIT_US;
     it->aged = aged < TRAILER_NOT_AGED ? (uint16_t)aged : TRAILER_NOT_AGED - 1;
-    a->waited_ms = dt_watch_waited_ms(dt_watch_age(it->rules, it->second, a->at_us, sure), u->options.charge);
+    a->waited_ms = dt_watch_waited_ms(dt_watch_age(it->rules, it->second, a->at_us, sure), a->charge);
     return true;
 }
 
@@ -302,7 +336,7 @@ static void release(dt_udp *u, struct peer *peer, uint64_t now_us) {
     w->kept_count = 0;
     for (; it; it = next) {
         next = it->next;
-        if (it->arrival.maker != peer->node) {
+        if (it->arrival.hop != peer->node) {
             it->next = NULL;
             if (w->last_kept) w->last_kept->next = it;
             else w->kept = it;

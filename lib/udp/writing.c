@@ -233,6 +233,7 @@ void dtu_write_held(dt_udp *u, const struct peer *peer) {
 /* Sends the frames that wait. What is late counts as lost: its life says nothing of the time that it waited here. */
 static void write_frames(dt_udp *u) {
     if (u->out.made_at == DT_NEVER) return;
+    dtu_driven_drained(u);
     unsigned parts;
     for (bool more = true; more;) {
         more = gather(u, &parts);

@@ -1,6 +1,6 @@
 /* Many clients that a service has never heard of: each opens a driver, makes one call to node 2, and goes.
  *
- *   crowd PORT FIRST COUNT MANY    nodes FIRST to FIRST + COUNT - 1, MANY of them at once
+ *   crowd HOST PORT FIRST COUNT MANY    nodes FIRST to FIRST + COUNT - 1, MANY of them at once
  *
  * Prints `answered N unsure N wrong N`. */
 #include "deltat_udp.h"
@@ -32,10 +32,10 @@ static void die(const char *why) {
     exit(1);
 }
 
-static void begin(struct client *it, uint32_t node, const char *port, int many) {
+static void begin(struct client *it, uint32_t node, char **at, int many) {
     struct dt_udp_options options = {.size = sizeof options,
                                      .node = node,
-                                     .host = "127.0.0.1",
+                                     .host = strcmp(at[0], "127.0.0.1") ? NULL : at[0],
                                      .role = DT_UDP_ROLE_SERVICE,
                                      .charge = 294,
                                      .life = 1,
@@ -47,7 +47,7 @@ static void begin(struct client *it, uint32_t node, const char *port, int many) 
                                      .flags = DT_UDP_FLAG_WITHOUT_SEGMENTS};
     struct dt_udp_error error;
     *it = (struct client){.udp = dt_udp_open(&options, &error), .node = node};
-    if (it->udp == NULL || dt_udp_set_peer(it->udp, 2, "127.0.0.1", port, &error) != DT_OK) die(error.text);
+    if (it->udp == NULL || dt_udp_set_peer(it->udp, 2, at[0], at[1], &error) != DT_OK) die(error.text);
     dt_udp_open_port(it->udp, 10, DT_PORT_CALLER);
     struct epoll_event wanted = {.events = EPOLLIN, .data.ptr = it};
     if (epoll_ctl(many, EPOLL_CTL_ADD, dt_udp_fd(it->udp), &wanted)) die("epoll");
@@ -80,20 +80,20 @@ static bool goes(struct client *it) {
 }
 
 int main(int count, char **words) {
-    if (count != 5) die("usage: crowd PORT FIRST COUNT MANY");
-    uint32_t node = (uint32_t)atoi(words[2]), end = node + (uint32_t)atoi(words[3]), size = (uint32_t)atoi(words[4]),
+    if (count != 6) die("usage: crowd HOST PORT FIRST COUNT MANY");
+    uint32_t node = (uint32_t)atoi(words[3]), end = node + (uint32_t)atoi(words[4]), size = (uint32_t)atoi(words[5]),
              left = 0;
     struct client *all = calloc(size, sizeof *all);
     int many = epoll_create1(0);
     if (all == NULL || many < 0) die("out of memory");
-    while (left < size && node < end) begin(&all[left++], node++, words[1], many);
+    while (left < size && node < end) begin(&all[left++], node++, words + 1, many);
     while (left > 0) {
         struct epoll_event ready[64];
         int found = epoll_wait(many, ready, 64, LINGER_MS / 2);
         for (int i = 0; i < found; i++) step(ready[i].data.ptr);
         for (struct client *it = all; it < all + size; it++) {
             if (!goes(it)) continue;
-            if (node < end) begin(it, node++, words[1], many);
+            if (node < end) begin(it, node++, words + 1, many);
             else left--;
         }
     }

@@ -12,6 +12,8 @@
         if (!(truth)) fprintf(stderr, "driven.c:%d: %s\n", __LINE__, #truth), exit(1); \
     } while (0)
 
+static const struct dt_link LINKS[] = {{.charge = 294, .number = 7}};
+
 enum { ITEMS = 64, ROOM = 2 * DT_MAX_PAYLOAD, UNDER_WAY = 100, LINK = 7 };
 
 static const struct dt_params PARAMS = {.size = sizeof PARAMS, .mpl = 4000, .r = 9000, .a = 5, .rto = 90,
@@ -66,9 +68,8 @@ static struct dt_udp_options options_of(uint32_t node) {
 }
 
 static void open_service(struct end *it, uint32_t node, uint16_t port, uint8_t kind) {
-    struct dt_link link = {.charge = 294, .number = LINK};
     struct dt_route route = {.to = 3 - node, .link = LINK};
-    struct dt_node_options options = {.size = sizeof options, .node = node, .now = now_ms(), .links = &link,
+    struct dt_node_options options = {.size = sizeof options, .node = node, .now = now_ms(), .links = LINKS,
                                       .link_count = 1, .routes = &route, .route_count = 1,
                                       .start_as = DT_START_FIRST};
     struct dt_service_options limits = {
@@ -84,6 +85,7 @@ static void drive(struct end *it, uint32_t node, bool hooked) {
     it->keeper = (struct dt_udp_keeper){.extend = extend, .user = it};
     it->hooks = (struct dt_udp_hooks){receive, tick, wake, next_datagram, not_sent, it};
     struct dt_udp_driven driven = {.size = sizeof driven, .service = it->service, .keeper = &it->keeper,
+                                   .links = LINKS, .link_count = 1,
                                    .hooks = hooked ? &it->hooks : NULL};
     it->udp = dt_udp_drive(&driven, &options, &error);
     WANT(it->udp);

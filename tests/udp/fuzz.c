@@ -1,7 +1,8 @@
 /* Any octets as datagrams of the driver over a UDP socket, with real sockets of this machine: tests/udp_fuzz.py
- * builds and runs it. An input is a head (node or service, flags) and records: which socket speaks, what it says, and
- * how many octets of the input it says. Socket 0 has the address of the configured peer, and 1 and 2 are strangers,
- * who may learn cookies.
+ * builds and runs it. An input is a head (node or service, flags, with the watch or without) and records: which socket
+ * speaks, what it says, and how many octets of the input it says. Socket 0 has the address of the configured peer, and
+ * 1 and 2 are strangers, who may learn cookies. With the watch a speaker's datagrams mostly end with a trailer, which
+ * says what the speaker heard of the driver's clock, or what the input wants.
  *
  * A fault is what the sanitizers see; an event that has no kind, or octets that can't be read; and a stranger who has
  * received more than it sent, or anything but challenges, before it returned a cookie. With -DALONE it has a main:
@@ -13,9 +14,10 @@
 #include <stdlib.h>
 #include <string.h>
 #include <sys/socket.h>
+#include <time.h>
 #include <unistd.h>
 
-enum { SOCKETS = 3, ME = 2, PEER = 1, HEAD = 4, MOST_RECORDS = 64, FRAME = 30 };
+enum { SOCKETS = 3, ME = 2, PEER = 1, HEAD = 4, MOST_RECORDS = 64, FRAME = 30, MOST = 1000 };
 
 #define WANT(truth) \
     do { \
@@ -28,6 +30,8 @@ struct speaker {
     bool proved;
     size_t sent, heard;
     uint8_t cookie[9]; /* of the last challenge, its span first */
+    uint64_t opening;  /* names its own */
+    uint64_t its_opening, its_made; /* what the last trailer of the driver said */
 };
 
 struct world {
@@ -35,22 +39,54 @@ struct world {
     struct speaker all[SOCKETS];
     struct sockaddr_in target;
     uint8_t object[3000];
-    uint64_t sum; /* of all octets that are handed out: so each of them is read */
+    uint32_t print; /* of the parameters */
+    bool watched;
+    uint8_t odd;    /* which field of the next trailer is another one, and how */
+    uint64_t sum;   /* of all octets that are handed out: so each of them is read */
 };
 
 static void put(uint8_t *at, uint64_t value, int octets) {
     for (int i = octets - 1; i >= 0; i--, value >>= 8) at[i] = (uint8_t)value;
 }
 
+static uint64_t got(const uint8_t *at, int octets) {
+    uint64_t value = 0;
+    for (int i = 0; i < octets; i++) value = value << 8 | at[i];
+    return value;
+}
+
 /* --- what the speakers hear and say */
 
-static void hear(struct speaker *it) {
+static void hear(const struct world *w, struct speaker *it) {
     uint8_t room[9000];
     for (ssize_t len; (len = recv(it->socket, room, sizeof room, MSG_DONTWAIT)) >= 0;) {
         it->heard += (size_t)len;
+        if (w->watched) {
+            WANT(len > DT_UDP_TRAILER);
+            len -= DT_UDP_TRAILER;
+            it->its_opening = got(room + len + 4, 6), it->its_made = got(room + len + 12, 6);
+        }
         bool challenge = len == 28 && room[0] == 208 && room[2] == 1;
         if (challenge) memcpy(it->cookie, room + 3, 1), memcpy(it->cookie + 1, room + 12, 8);
         if (!it->proved) WANT(challenge && it->heard <= it->sent);
+    }
+}
+
+static uint64_t microseconds(void) {
+    struct timespec it;
+    clock_gettime(CLOCK_BOOTTIME, &it);
+    return (uint64_t)it.tv_sec * 1000000 + (uint64_t)it.tv_nsec / 1000;
+}
+
+/* The trailer of a speaker (docs/formats.md), of which one field may be what the input wants. */
+static void put_trailer(const struct world *w, const struct speaker *it, uint8_t *at, uint8_t kind) {
+    static const uint8_t FIELDS[][2] = {{0, 4}, {4, 6}, {10, 1}, {11, 1}, {12, 6}, {18, 6}, {24, 2}, {26, 2}, {28, 1}};
+    put(at, w->print, 4), put(at + 4, it->opening, 6), put(at + 10, 16 | kind, 1), put(at + 11, 0, 1);
+    put(at + 12, microseconds(), 6), put(at + 18, it->its_made, 6), put(at + 24, it->its_opening, 2);
+    put(at + 26, w->odd % 7 * 30, 2), put(at + 28, 0, 6);
+    if (w->odd >= 64) {
+        const uint8_t *field = FIELDS[w->odd % 9];
+        put(at + field[0], got(at + field[0], field[1]) + (w->odd & 32 ? 1u << 20 : w->odd / 64 - 2u), field[1]);
     }
 }
 
@@ -69,6 +105,23 @@ static void say(struct world *w, struct speaker *it, const struct iovec *octets,
     if (sent > 0) it->sent += (size_t)sent;
 }
 
+/* Sends octets, with the speaker's trailer if the driver has the watch. */
+static void say_watched(struct world *w, struct speaker *it, const uint8_t *octets, size_t len, uint8_t kind) {
+    uint8_t room[MOST + DT_UDP_TRAILER];
+    if (len > MOST) len = MOST;
+    memcpy(room, octets, len);
+    if (w->watched) put_trailer(w, it, room + len, kind), len += DT_UDP_TRAILER;
+    say(w, it, &(struct iovec){room, len}, 0);
+}
+
+/* A datagram without a frame: the speaker asks, or answers. */
+static void say_bare(struct world *w, struct speaker *it, const uint8_t *octets, size_t len) {
+    uint8_t node[4];
+    put(node, it->node, 4);
+    w->odd = len > 1 ? octets[1] : 0;
+    say_watched(w, it, node, sizeof node, (uint8_t)(len ? 1 + octets[0] % 4 : 2));
+}
+
 /* A frame whose headers are whole, with what the input says of its packet behind them. */
 static void say_frame(struct world *w, struct speaker *it, const uint8_t *octets, size_t len) {
     uint8_t frame[FRAME + 256] = {1, 1, 0, 0, 0, 0, 1, 226};
@@ -82,7 +135,7 @@ static void say_frame(struct world *w, struct speaker *it, const uint8_t *octets
     put(frame + 18, port >= 30 ? port : 10, 2), put(frame + 20, port, 2);
     put(frame + 22, len > 3 ? octets[3] : 0, 4);
     memcpy(frame + FRAME, octets + (len - body), body);
-    say(w, it, &(struct iovec){frame, FRAME + body}, 0);
+    say_watched(w, it, frame, FRAME + body, 1);
 }
 
 /* A datagram of the drivers' own; a proof has the cookie of the last challenge. */
@@ -94,7 +147,7 @@ static void say_control(struct world *w, struct speaker *it, const uint8_t *octe
     if (len && octets[0] & 1) room[2] = octets[0] >> 1 & 3;
     if (len > 2 && octets[0] & 8) room[octets[1] % 28] ^= octets[2];
     if (room[2] == 2) it->proved = true; /* (from here on it may be answered, if it was good) */
-    say(w, it, &(struct iovec){room, sizeof room}, 0);
+    say_watched(w, it, room, sizeof room, 1);
 }
 
 /* --- what the program does */
@@ -102,7 +155,7 @@ static void say_control(struct world *w, struct speaker *it, const uint8_t *octe
 static void take_events(struct world *w) {
     const struct dt_udp_event *event;
     while ((event = dt_udp_next_event(w->udp, 0))->kind != DT_UDP_EVENT_NONE) {
-        WANT(event->kind <= DT_UDP_EVENT_REPLY_UNCERTAIN);
+        WANT(event->kind <= DT_UDP_EVENT_ROOM);
         for (size_t i = 0; i < event->len && event->octets; i++) w->sum += event->octets[i];
         if (event->kind == DT_UDP_EVENT_REQUEST) dt_udp_reply(w->udp, &event->token, event->octets, event->len);
         if (event->kind == DT_UDP_EVENT_MESSAGE) {
@@ -129,6 +182,7 @@ static void act(struct world *w, uint8_t what, const uint8_t *octets, size_t len
 
 static void record(struct world *w, uint8_t op, const uint8_t *octets, size_t len) {
     struct speaker *it = &w->all[op % SOCKETS];
+    w->odd = len > 5 ? octets[5] : 0;
     switch (op / SOCKETS % 6) {
     case 0: say(w, it, &(struct iovec){(void *)(uintptr_t)octets, len}, 0); break;
     case 1: say_frame(w, it, octets, len); break;
@@ -138,9 +192,9 @@ static void record(struct world *w, uint8_t op, const uint8_t *octets, size_t le
             say(w, it, &(struct iovec){(void *)(uintptr_t)(octets + 1), len - 1}, (uint16_t)(1 + octets[0] % 64));
         break;
     case 4: act(w, len ? octets[0] : 0, octets, len); break;
-    default: break;
+    default: say_bare(w, it, octets, len); break;
     }
-    if (op & 128) take_events(w), hear(it);
+    if (op & 128) take_events(w), hear(w, it);
 }
 
 /* --- an input */
@@ -157,21 +211,25 @@ static void begin(struct world *w, const uint8_t *head) {
                                      .start_as = DT_UDP_START_FIRST,
                                      .life = 1,
                                      .max_peers = head[1] & 3,
-                                     .flags = head[2] & 15,
+                                     .flags = (head[2] & 15u) | (head[2] & 16 ? DT_UDP_FLAG_WITHOUT_WATCH : 0u),
                                      .report_kinds = head[3] & 1 ? UINT32_MAX : 0,
                                      .role = head[0] & 1 ? DT_UDP_ROLE_SERVICE : DT_UDP_ROLE_NODE,
                                      .max_message = 3000,
                                      .max_queued = 5000};
     struct dt_udp_error error;
+    uint64_t print = 0;
     w->udp = dt_udp_open(&options, &error);
-    WANT(w->udp);
+    WANT(w->udp && dt_params_fingerprint(options.params, &print) == DT_OK);
+    w->print = (uint32_t)(print >> 32);
+    w->watched = !(head[2] & 16);
     w->target = (struct sockaddr_in){
         .sin_family = AF_INET, .sin_port = htons(dt_udp_local_port(w->udp)), .sin_addr.s_addr = htonl(INADDR_LOOPBACK)};
     for (uint32_t i = 0; i < SOCKETS; i++) {
         struct sockaddr_in any = {.sin_family = AF_INET, .sin_addr.s_addr = htonl(INADDR_LOOPBACK)};
         w->all[i] = (struct speaker){.socket = socket(AF_INET, SOCK_DGRAM, 0),
                                      .node = i == 0 ? PEER : 499 + (head[3] & 2 ? 1 : i),
-                                     .proved = i == 0};
+                                     .proved = i == 0,
+                                     .opening = (uint64_t)1000 << 16 | i};
         WANT(w->all[i].socket >= 0 && bind(w->all[i].socket, (struct sockaddr *)&any, sizeof any) == 0);
     }
     struct sockaddr_in peer;
@@ -195,7 +253,7 @@ int LLVMFuzzerTestOneInput(const uint8_t *octets, size_t len) {
         at += 2 + said;
     }
     take_events(&w);
-    for (int i = 0; i < SOCKETS; i++) hear(&w.all[i]), close(w.all[i].socket);
+    for (int i = 0; i < SOCKETS; i++) hear(&w, &w.all[i]), close(w.all[i].socket);
     dt_udp_close(w.udp);
     return 0;
 }

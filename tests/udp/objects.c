@@ -4,7 +4,7 @@
  *   objects put HOST PORT LANES OCTETS COUNT    puts COUNT objects of OCTETS octets one after another, or, with COUNT
  *                                               below 0, -COUNT at once; a line `put N MS` or `unsure N MS` for each
  *
- * Environment: DELAY_MS, the delay of the network each way (1); RTO_MS (40). Octet i of an object of number n is by n
+ * Environment: DELAY_MS, the delay of the network each way (1); RTO_MS (40); FLAGS of the options (0). Octet i of an object of number n is by n
  * and i, so that the taker knows them. */
 #include "deltat_udp.h"
 #include <inttypes.h>
@@ -69,6 +69,7 @@ static dt_udp *opened(uint32_t node, const char *host, const char *port, uint32_
             .probe = 2 * rto, .seg = 1400, .cap = 65536, .rcap = 65536, .window = 65536,
             .run_limit = 2147483648u, .start = 0},
         .max_peers = node == 1 ? 16 : 0,
+        .flags = (uint32_t)atoi(getenv("FLAGS") ? getenv("FLAGS") : "0"),
         .max_queued = 1 << 24};
     struct dt_udp_error error;
     dt_udp *udp = dt_udp_open(&options, &error);

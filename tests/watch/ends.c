@@ -5,8 +5,10 @@
  *   ends ask KEY=VALUE..     for `seconds`, has `depth` calls of `octets` octets under way on each of `flows` flows
  *
  * Keys: port peer_port node peer again life flags mpl r rto charge seg seconds flows depth octets answer log; delay_us:
- * the parameters and the charge are those of dt_params_for; run: the upper half of the numbers of requests; held: of 1,000 calls of the socket, how many are preceded by a SIGSTOP of this process;
- * clock: a file whose first eight octets are the ns by which the clock stood. Each number is printed with its name. */
+ * the parameters and the charge are those of dt_udp_params_for, for a round trip of trip_us; run: the upper half of the
+ * numbers of requests; held: of 1,000 calls of the socket that send data once more, how many are preceded by a SIGSTOP of
+ * this process; clock: a file whose first eight octets are the ns by which the clock stood; datagrams: it ends
+ * when it has read so many. Each number is printed with its name. */
 #include "deltat_udp.h"
 #include <errno.h>
 #include <fcntl.h>
@@ -45,6 +47,14 @@ int __wrap_sendmmsg(int socket, struct mmsghdr *heads, unsigned count, int flags
 ssize_t __wrap_sendmsg(int socket, const struct msghdr *head, int flags);
 int __real_sendmmsg(int socket, struct mmsghdr *heads, unsigned count, int flags);
 ssize_t __real_sendmsg(int socket, const struct msghdr *head, int flags);
+dt_status __wrap_dt_watch_hear(dt_watch *watch, bool second, const struct dt_passage *passage);
+dt_status __real_dt_watch_hear(dt_watch *watch, bool second, const struct dt_passage *passage);
+uint64_t __wrap_dt_watch_around(dt_watch *watch, bool second, uint64_t then);
+uint64_t __real_dt_watch_around(dt_watch *watch, bool second, uint64_t then);
+struct dt_receive_result __wrap_dt_service_receive(dt_service *service, uint64_t now, uint16_t link, const uint8_t *datagram,
+                                                   size_t len, uint32_t waited_ms);
+struct dt_receive_result __real_dt_service_receive(dt_service *service, uint64_t now, uint16_t link, const uint8_t *datagram,
+                                                   size_t len, uint32_t waited_ms);
 
 /* CLOCK_BOOTTIME of a machine whose clock stood. */
 int __wrap_clock_gettime(clockid_t clock, struct timespec *it) {
@@ -56,19 +66,71 @@ int __wrap_clock_gettime(clockid_t clock, struct timespec *it) {
     return result;
 }
 
+/* Whether a frame has data that went before: only such a one is delivered twice if it is late. */
+static bool goes_again(const struct iovec *frame) {
+    static uint64_t seen[1 << 14];
+    const uint8_t *octets = frame->iov_base;
+    if (frame->iov_len < 30 || octets[16] != 1) return false;
+    uint64_t name = 1;
+    for (int i = 18; i < 26; i++) name = (name ^ octets[i]) * 1099511628211u; /* (its ports and its number) */
+    uint64_t *place = &seen[name >> 50], before = *place;
+    *place = name;
+    return before == name;
+}
+
 /* A process that is stopped between the making of its frames and the socket. */
-static void hold(void) {
-    if (held && (uint32_t)(drand48() * 1000) < held) raise(SIGSTOP);
+static void hold(const struct msghdr *head) {
+    if (held && goes_again(head->msg_iov) && (uint32_t)(drand48() * 1000) < held) raise(SIGSTOP);
 }
 
 int __wrap_sendmmsg(int socket, struct mmsghdr *heads, unsigned count, int flags) {
-    hold();
+    hold(&heads->msg_hdr);
     return __real_sendmmsg(socket, heads, count, flags);
 }
 
 ssize_t __wrap_sendmsg(int socket, const struct msghdr *head, int flags) {
-    hold();
+    hold(head);
     return __real_sendmsg(socket, head, flags);
+}
+
+/* --- whether what is dropped as too old was too old: both ends read one clock, so the true age is known */
+
+static struct {
+    uint64_t made;             /* of the datagram that is passed in next, in us */
+    uint64_t late, false_drops; /* that were too old by their age; of these: that weren't later than the network may be */
+    uint64_t most;             /* how long a datagram may be under way, with the two machines, in us */
+    uint64_t longest, spare;   /* the longest true age, and the least life that was left of what was taken, in us */
+    uint64_t first, last;      /* readings of the first datagram, and of the last false drop, in us */
+    uint32_t charge;
+} judged = {.most = UINT64_MAX, .spare = UINT64_MAX};
+
+dt_status __wrap_dt_watch_hear(dt_watch *watch, bool second, const struct dt_passage *passage) {
+    judged.made = passage->made;
+    return __real_dt_watch_hear(watch, second, passage);
+}
+
+/* (of a frame whose age wasn't known: it is asked for when that is) */
+uint64_t __wrap_dt_watch_around(dt_watch *watch, bool second, uint64_t then) {
+    judged.made = then;
+    return __real_dt_watch_around(watch, second, then);
+}
+
+struct dt_receive_result __wrap_dt_service_receive(dt_service *service, uint64_t now, uint16_t link, const uint8_t *datagram,
+                                                   size_t len, uint32_t waited_ms) {
+    struct timespec it;
+    (void)syscall(SYS_clock_gettime, CLOCK_BOOTTIME, &it);
+    uint64_t us = (uint64_t)it.tv_sec * 1000000 + (uint64_t)it.tv_nsec / 1000, age = us > judged.made ? us - judged.made : 0;
+    uint64_t life = 0, charged = 1000 * ((uint64_t)judged.charge + waited_ms);
+    for (int i = 4; len >= 16 && i < 8; i++) life = life << 8 | datagram[i];
+    life *= 1000;
+    if (age > judged.longest) judged.longest = age;
+    if (life > charged && life - charged < judged.spare) judged.spare = life - charged;
+    bool is_late = life <= charged, is_false = is_late && age + 2000 < life && age <= judged.most; /* (whole milliseconds) */
+    judged.late += is_late;
+    judged.false_drops += is_false;
+    if (judged.first == 0) judged.first = us;
+    if (is_false) judged.last = us - judged.first;
+    return __real_dt_service_receive(service, now, link, datagram, len, waited_ms);
 }
 
 /* --- words */
@@ -138,7 +200,9 @@ static void note_ends(struct end *it, uint32_t before) {
 
 static void ask(struct end *it) {
     uint64_t end = milliseconds() + 1000 * (uint64_t)number(it, "seconds", 5), patience = end + 4000;
+    uint64_t most = number(it, "datagrams", UINT32_MAX);
     for (uint64_t now; !stopped && (now = milliseconds()) < patience;) {
+        if (dt_udp_get_counts(it->udp)->datagrams_in >= most) end = now;
         if (now >= end && it->answered + it->unsure == it->made) break;
         if (now < end) make_calls(it);
         dt_udp_flush(it->udp);
@@ -169,15 +233,16 @@ static struct dt_params params_of(const struct end *it, uint32_t *charge) {
     uint32_t delay = number(it, "delay_us", 0);
     *charge = number(it, "charge", 44);
     if (delay == 0) return params;
-    struct dt_network network = DT_NETWORK(delay, 2 * delay);
-    network.mtu -= DT_UDP_TRAILER;
-    if (dt_params_for(&network, &params, charge) != DT_OK) die("no parameters suit");
+    judged.most = delay + 40000; /* (20 ms at each of the two machines) */
+    struct dt_network network = DT_NETWORK(delay, number(it, "trip_us", 2 * delay));
+    if (dt_udp_params_for(&network, &params, charge) != DT_OK) die("no parameters suit");
     return params;
 }
 
 static void open_end(struct end *it, bool asks) {
     uint32_t charge;
     struct dt_params params = params_of(it, &charge);
+    judged.charge = charge;
     struct dt_udp_options options = {.size = sizeof options, .node = it->node, .host = "127.0.0.1",
                                      .port = word(it, "port", NULL), .params = &params,
                                      .charge = charge, .role = DT_UDP_ROLE_SERVICE,
@@ -209,10 +274,11 @@ static void tell(const struct end *it) {
     printf("made %u answered %u unsure %u alarms %u in %" PRIu64 " out %" PRIu64 " unknown %" PRIu64 " not_sent %" PRIu64
            " without_trailer %" PRIu64 " too_old %" PRIu64 " ages_unknown %" PRIu64 " other_parameters %" PRIu64
            " clock_alarms %" PRIu64 " former %" PRIu64 " early %" PRIu64 " proved %" PRIu64 " pings_in %" PRIu64
-           " pings_out %" PRIu64 "\n",
+           " pings_out %" PRIu64 " late %" PRIu64 " false_drops %" PRIu64 " longest_us %" PRIu64 " spare_us %" PRIu64
+           " false_until_us %" PRIu64 "\n",
            it->made, it->answered, it->unsure, it->alarms, c->datagrams_in, c->datagrams_out, c->unknown, c->not_sent,
            c->without_trailer, c->too_old, c->ages_unknown, c->other_parameters, c->clock_alarms, c->former_openings,
-           c->early_openings, c->openings_proved, c->pings_in, c->pings_out);
+           c->early_openings, c->openings_proved, c->pings_in, c->pings_out, judged.late, judged.false_drops, judged.longest, judged.spare, judged.last);
 }
 
 int main(int count, char **words) {

@@ -74,7 +74,7 @@ class Live:
         try:
             given = asked.own.node, self.params, links, {asked.peer.node: 1}
             node = self.deltat.Recorded(asked.record, *given, state=self.state) if asked.record else self.deltat.Node(*given, state=self.state)
-            self.udp = self.deltat.Udp(node, (asked.own.host, asked.own.port), {asked.peer.node: (asked.peer.host, asked.peer.port)})
+            self.udp = self.deltat.Udp(node, (asked.own.host, asked.own.port), {asked.peer.node: (asked.peer.host, asked.peer.port)}, watch=False)
         except BaseException:
             self.state.close()
             raise

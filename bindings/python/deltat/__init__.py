@@ -75,11 +75,13 @@ from .values import (
     Piece,
     Report,
 )
+from .watch import Alarm
 
 __all__ = [
     "ABI_VERSION",
     "MAX_DATAGRAM",
     "MAX_PAYLOAD",
+    "Alarm",
     "Answered",
     "AnyNode",
     "AsyncCalls",

@@ -63,6 +63,7 @@ class Alarm(enum.IntEnum):
 
     CLOCK = 1
     PARAMETERS = 2
+    WATCH = 3
 
 
 class Options(ctypes.Structure):
@@ -121,6 +122,7 @@ class Event(ctypes.Structure):
         ("cause", ctypes.c_uint8),
         ("gap", ctypes.c_bool),
         ("report", ctypes.POINTER(_c.Report)),
+        ("user", ctypes.c_uint64),
     ]
 
 
@@ -153,6 +155,18 @@ class Counts(ctypes.Structure):
         ("openings_proved", ctypes.c_uint64),
         ("pings_in", ctypes.c_uint64),
         ("pings_out", ctypes.c_uint64),
+        ("with_trailer", ctypes.c_uint64),
+    ]
+
+
+class CallOptions(ctypes.Structure):
+    """Of a call. Zero the struct, and set `size` and what you need."""
+
+    _fields_ = [
+        ("size", ctypes.c_uint32),
+        ("timeout_ms", ctypes.c_uint32),
+        ("flow", _c.Flow),
+        ("user", ctypes.c_uint64),
     ]
 
 
@@ -220,6 +234,8 @@ class Driven(ctypes.Structure):
         ("node", ctypes.c_void_p),
         ("service", ctypes.c_void_p),
         ("keeper", ctypes.POINTER(Keeper)),
+        ("links", ctypes.POINTER(_c.Link)),
+        ("link_count", ctypes.c_size_t),
         ("hooks", ctypes.POINTER(Hooks)),
     ]
 
@@ -234,6 +250,18 @@ class Item(ctypes.Structure):
         ("flow", _c.Flow),
         ("kind", ctypes.c_uint8),
         ("cause", ctypes.c_uint8),
+        ("user", ctypes.c_uint64),
+    ]
+
+
+class BatchCall(ctypes.Structure):
+    """A call of a batch. Its octets are behind those of the call before."""
+
+    _fields_ = [
+        ("flow", _c.Flow),
+        ("timeout_ms", ctypes.c_uint32),
+        ("len", ctypes.c_uint32),
+        ("user", ctypes.c_uint64),
     ]
 
 
@@ -250,11 +278,26 @@ class Batch(ctypes.Structure):
         ("heard", ctypes.POINTER(ctypes.c_uint32)),
         ("heard_count", ctypes.c_uint32),
         ("blocked", ctypes.c_bool),
+        ("alarm", ctypes.c_uint8),
+        ("alarm_peer", ctypes.c_uint32),
+        ("calls", ctypes.POINTER(BatchCall)),
+        ("payloads", ctypes.c_void_p),
+        ("call_count", ctypes.c_uint32),
+        ("calls_made", ctypes.c_uint32),
+        ("refused", _c.CallResult),
     ]
 
 
 # Each function: its result, and its arguments.
 FUNCTIONS: dict[str, tuple[Any, list[Any]]] = {
+    "dt_udp_params_for": (
+        ctypes.c_uint8,
+        [
+            ctypes.POINTER(_c.Network),
+            ctypes.POINTER(_c.Params),
+            ctypes.POINTER(ctypes.c_uint32),
+        ],
+    ),
     "dt_udp_abi_version": (ctypes.c_uint32, []),
     "dt_udp_fresh_number": (ctypes.c_uint32, []),
     "dt_udp_open": (ctypes.c_void_p, [ctypes.POINTER(Options), ctypes.POINTER(Error)]),
@@ -280,6 +323,15 @@ FUNCTIONS: dict[str, tuple[Any, list[Any]]] = {
             ctypes.c_void_p,
             ctypes.c_size_t,
             ctypes.c_uint32,
+        ],
+    ),
+    "dt_udp_make_call": (
+        _c.CallResult,
+        [
+            ctypes.c_void_p,
+            ctypes.POINTER(CallOptions),
+            ctypes.c_void_p,
+            ctypes.c_size_t,
         ],
     ),
     "dt_udp_reply": (_c.ReplyResult, [ctypes.c_void_p, ctypes.POINTER(_c.Token), ctypes.c_void_p, ctypes.c_size_t]),

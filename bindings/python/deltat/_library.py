@@ -55,7 +55,7 @@ def _udp_path() -> str:
 
 def _load_driver(kind: type[ctypes.CDLL], path: str) -> ctypes.CDLL:
     try:
-        driver = kind(path, use_errno=True)
+        driver, with_errno = kind(path), kind(path, use_errno=True)
     except OSError as why:
         raise ImportError(
             f"deltat: {path} can't be loaded ({why}); install libdeltat-udp, build it with `make -C lib`, or set "
@@ -66,8 +66,10 @@ def _load_driver(kind: type[ctypes.CDLL], path: str) -> ctypes.CDLL:
     if version != _c_udp.ABI_VERSION:
         raise ImportError(f"{path} has interface {version}, and this package needs {_c_udp.ABI_VERSION}")
     for name, (result, arguments) in _c_udp.FUNCTIONS.items():
-        function = getattr(driver, name)
+        # (to swap errno costs as much as the rest of a call: one function alone sets it)
+        function = getattr(with_errno if name == "dt_udp_fd" else driver, name)
         function.restype, function.argtypes = result, arguments
+        setattr(driver, name, function)
     return driver
 
 

@@ -1,4 +1,4 @@
-"""A node of this process over a UDP socket, by libdeltat-udp: what `Udp` and `AsyncUdp` stand on.
+"""A node of this process over a UDP socket, by libdeltat-udp: what `Udp`, `AsyncUdp` and `deltat.driver` stand on.
 
 The driver has the socket, the clock and the timer: it reads the socket and passes datagrams in, puts what leaves the
 node on the wire, and does what is due. The node's handle stays the node's. A node whose class has its own `receive`,
@@ -11,7 +11,7 @@ import os
 import socket
 import struct
 import weakref
-from collections.abc import Iterator
+from collections.abc import Iterable
 from typing import TYPE_CHECKING, NoReturn
 
 from . import _c, _c_udp
@@ -20,6 +20,7 @@ from ._library import drivers
 from .errors import InvalidArgument, OutOfMemory, StateError, Stopped, UdpError
 from .hooked import Hooked, is_hooked
 from .values import Flow, flow_to_c, params_of
+from .watch import Alarm
 
 if TYPE_CHECKING:
     from .node import AnyNode
@@ -27,9 +28,20 @@ if TYPE_CHECKING:
 MAX_ITEMS, ROOM = 1024, 262_144
 """How many events are taken at once, and of how many octets."""
 LONGEST_WAIT_MS = 1000
-# the structs `dt_udp_item` and `dt_token`: the flow's two nodes are before its two ports
-_ITEM, _TOKEN = struct.Struct("=QIIIIHHBB2x"), struct.Struct("=QIIHH4x")
-assert _ITEM.size == ctypes.sizeof(_c_udp.Item) and _TOKEN.size == ctypes.sizeof(_c.Token)
+# the structs `dt_udp_item`, `dt_token` and `dt_udp_batch_call`: a flow's two nodes are before its two ports
+_ITEM, _TOKEN, _CALL = struct.Struct("=QIIIIHHBB2xQ"), struct.Struct("=QIIHH4x"), struct.Struct("=IIHHII4xQ")
+assert [it.size for it in (_ITEM, _TOKEN, _CALL)] == [
+    ctypes.sizeof(it) for it in (_c_udp.Item, _c.Token, _c_udp.BatchCall)
+]
+# of `dt_udp_batch`, from `count` on: count, used, heard_count, blocked, alarm, alarm_peer, calls_made
+_RESULT = struct.Struct("=II8xI?B2xI24xI")
+_RESULT_AT = _c_udp.Batch.count.offset
+assert [getattr(_c_udp.Batch, it).offset - _RESULT_AT for it in ("heard_count", "blocked", "alarm_peer", "calls_made")] == [
+    16,
+    20,
+    24,
+    _RESULT.size - 4,
+]
 
 
 def refuse(error: _c_udp.Error) -> NoReturn:
@@ -56,62 +68,47 @@ def _numeric(address: tuple[str, int]) -> tuple[bytes, bytes]:
     return host.encode(), str(port).encode()
 
 
-class Driven:
-    """The driver of a node, for one thread at a time."""
+class Driver:
+    """What drives a node, for one thread at a time."""
 
-    def __init__(self, node: AnyNode, bind: tuple[str, int]) -> None:
-        """Binds the socket. Raises UdpError if the system refuses it, InvalidArgument or OutOfMemory."""
+    def __init__(self, handle: int, kept: list[object], failures: list[BaseException]) -> None:
+        """Takes over a driver that is open. `kept`: what has to live until it is closed. `failures`: what functions
+        raised that it called."""
         self._waits, self._short = drivers()
-        self._node, self._failures, self._ended = node, list[BaseException](), (0, 0)
-        host, port = _numeric(bind)
-        options, given, error = _c.sized(_c_udp.Options), _c.sized(_c_udp.Driven), _c_udp.Error()
-        options.node, options.host, options.port = node.number, host, port
-        options.params = ctypes.pointer(params_of(node.params))
-        setattr(given, node._DRIVEN_AS, node._handle)
-        # (the driver has their addresses until it is closed)
-        self._kept: list[object] = [self._hooked(given) if is_hooked(node) else self._keeper(given)]
-        handle: int | None = self._waits.dt_udp_drive(given, options, error)
-        if not handle:
-            refuse(error)
         self._handle: int | None = handle
+        self._ended, self._failures = (0, 0), failures
+        # of the call that the last turn didn't make: its user, its flow and why
+        self.refused: tuple[int, Flow, _c.CallResult] | None = None
         self.socket = socket.socket(fileno=self._short.dt_udp_socket(handle))
         room, items = ctypes.create_string_buffer(ROOM), (_c_udp.Item * MAX_ITEMS)()
+        payloads, calls = ctypes.create_string_buffer(ROOM), (_c_udp.BatchCall * MAX_ITEMS)()
         self._heard, self._token = (ctypes.c_uint32 * _c_udp.MAX_HEARD)(), _c.Token()
-        self._octets_view, self._items_view = memoryview(room), memoryview(items).cast("B")
-        self._batch = _c_udp.Batch(items=items, octets=ctypes.addressof(room), size=ROOM, heard=self._heard)
-        self._call, self._reply = self._short.dt_udp_call, self._short.dt_udp_reply
+        self._octets_view, self._items_view = (memoryview(it).cast("B") for it in (room, items))
+        # calls that are made at the next turn, and how many there are of them and of their octets
+        self._payloads_view, self._calls_view = (memoryview(it).cast("B") for it in (payloads, calls))
+        self._call_count = self._payloads_used = 0
+        self._batch = _c_udp.Batch(
+            items=items,
+            octets=ctypes.addressof(room),
+            size=ROOM,
+            heard=self._heard,
+            calls=calls,
+            payloads=ctypes.addressof(payloads),
+        )
+        # (the batch has only its address)
+        self._kept_payloads = payloads
+        self._batch_view, self._to_batch = memoryview(self._batch).cast("B"), ctypes.byref(self._batch)
+        self.count = self._used = self._heard_count = 0
+        """How many events the last turn took, of how many octets."""
+        self.was_blocked = False
+        """Whether the guard blocked a datagram at the last turn."""
+        self.alarm = self.alarm_peer = 0
+        """What the watch found at the last turn, a `deltat.Alarm` or 0, and of which peer."""
+        self._reply = self._short.dt_udp_reply
         self._next, self._waits_next = self._short.dt_udp_next_batch, self._waits.dt_udp_next_batch
         self._counts = self._short.dt_udp_get_counts(self._handle).contents
-        self._finalizer = weakref.finalize(self, _close, self._waits, handle, self.socket, self._kept)
+        self._finalizer = weakref.finalize(self, _close, self._waits, handle, self.socket, kept)
         self._finalizer.atexit = False
-
-    def _hooked(self, given: _c_udp.Driven) -> object:
-        """Has the node's own functions called, which tell its state of each input."""
-        it = Hooked(self._node, self._failures)
-        given.hooks = ctypes.pointer(it.hooks)
-        return it
-
-    def _keeper(self, given: _c_udp.Driven) -> object:
-        """Has the node's state told of each input before it is done."""
-        state, failures = self._node._state, self._failures
-        if state is None:
-            return None
-        keeper = getattr(state, "_keeper", None)
-        extends = state.note_packet if keeper is None else state._extend
-        if keeper is None:
-            keeper = _c_udp.Keeper()
-
-        def extend(_: object, at: int) -> bool:
-            try:
-                extends(at)
-            except BaseException as why:
-                failures.append(why)
-                return False
-            return True
-
-        keeper.extend = _c_udp.KeeperExtend(extend)
-        given.keeper = ctypes.pointer(keeper)
-        return keeper
 
     @property
     def is_closed(self) -> bool:
@@ -125,17 +122,17 @@ class Driven:
             self._finalizer()
 
     def _open(self) -> int:
-        """The driver's address. Raises Forked in a child of the process that opened it, or Stopped."""
+        """The driver's address. Raises Stopped if it is closed."""
         if not self._handle:
-            self._node._handle
-            raise Stopped(f"node {self._node.number} is closed: open it again with Start.AGAIN")
+            raise Stopped("the driver is closed; open one again")
         return self._handle
 
-    def set_neighbour(self, number: int, link: int, address: tuple[str, int]) -> None:
-        """Sets the address of a node at the other end of a link. Raises InvalidArgument or OutOfMemory."""
-        error = _c_udp.Error()
-        if self._waits.dt_udp_set_neighbour(self._open(), _c.Route(number, link), *_numeric(address), error):
-            refuse(error)
+    def _raise(self, status: int) -> None:
+        """Raises the error of a status, if it is for good."""
+        if status == Status.NO_MEMORY:
+            raise OutOfMemory("out of memory; close the driver and open it again")
+        if status in (Status.NOT_OPEN, Status.STOPPED):
+            raise Stopped("the driver failed, or this is a forked child; open a driver again")
 
     def fileno(self) -> int:
         """A descriptor that is readable if something arrived or is due."""
@@ -151,40 +148,57 @@ class Driven:
         self._batch.max_items = MAX_ITEMS
 
     def turn(self, wait_ms: int = 0) -> int:
-        """Waits at most so many ms for something, receives what arrived, does what is due, and puts what leaves on the
-        wire. Returns a status, for `check`; `events` has the events that were taken."""
+        """Makes the calls that were begun, waits at most so many ms for something, receives what arrived, does what is
+        due, and puts what leaves on the wire. Returns a status, for `check`; `events` has the events that were taken.
+        If `refused` has a call then, the calls after it are made at the next turn."""
         next_batch = self._waits_next if wait_ms else self._next
-        status: int = next_batch(self._handle or self._open(), wait_ms, self._batch)
+        self._batch.call_count = begun = self._call_count
+        status: int = next_batch(self._handle or self._open(), wait_ms, self._to_batch)
+        found = _RESULT.unpack_from(self._batch_view, _RESULT_AT)
+        self.count, self._used, self._heard_count, self.was_blocked, self.alarm, self.alarm_peer, made = found
+        self.refused = None
+        if made == begun:
+            self._call_count = self._payloads_used = 0
+        else:
+            self._refuse(made)
         return status
 
-    def events(self) -> tuple[Iterator[tuple[int, ...]], bytes]:
-        """The events of the last turn, and their octets. Of each event: the call, the place of its octets and their
-        number, the flow's source, target and their ports, the kind and the cause."""
-        batch = self._batch
-        return _ITEM.iter_unpack(self._items_view[: batch.count * _ITEM.size]), bytes(self._octets_view[: batch.used])
+    def _refuse(self, count: int) -> None:
+        """Takes `count` calls that were made out of those that were begun, and the one after them, which was refused."""
+        source, target, source_port, target_port, _, _, user = _CALL.unpack_from(self._calls_view, count * _CALL.size)
+        self.refused = user, Flow(source, source_port, target, target_port), self._batch.refused
+        octets = bytes(self._payloads_view[: self._payloads_used])
+        calls = bytes(self._calls_view[: self._call_count * _CALL.size])
+        self._call_count = self._payloads_used = 0
+        at = 0
+        for i, it in enumerate(_CALL.iter_unpack(calls)):
+            size = it[5]
+            if i > count:
+                self.begin(Flow(it[0], it[2], it[1], it[3]), octets[at : at + size], it[4], it[6])
+            at += size
 
-    @property
-    def count(self) -> int:
-        """How many events the last turn took."""
-        count: int = self._batch.count
-        return count
+    def events(self) -> tuple[Iterable[tuple[int, ...]], memoryview]:
+        """The events of the last turn, and their octets until the next turn. Of each event: the call, the place of its
+        octets and their number, the flow's source, target and their ports, the kind, the cause and the user."""
+        if self.count == 1:
+            return (_ITEM.unpack_from(self._items_view),), self._octets_view
+        return _ITEM.iter_unpack(self._items_view[: self.count * _ITEM.size]), self._octets_view
 
     @property
     def has_brought(self) -> bool:
         """Whether the last turn took an event, or passed a datagram in."""
-        return bool(self._batch.count or self._batch.heard_count)
+        return bool(self.count or self._heard_count)
 
     @property
     def heard(self) -> list[int] | None:
         """The nodes of which datagrams were passed in at the last turn; None: too many to name."""
-        count = self._batch.heard_count
+        count = self._heard_count
         return None if count == _c_udp.MAX_HEARD else self._heard[:count]
 
     @property
-    def was_blocked(self) -> bool:
-        """Whether the guard blocked a datagram at the last turn."""
-        blocked: bool = self._batch.blocked
-        return blocked
+    def counts(self) -> dict[str, int]:
+        """The driver's counters, by their names in deltat_udp.h; empty once it is closed."""
+        return {name: getattr(self._counts, name) for name, _ in self._counts._fields_} if self._handle else {}
 
     def check(self, status: int) -> None:
         """Raises why the driver can't continue, if it can't."""
@@ -195,7 +209,7 @@ class Driven:
         error = self._short.dt_udp_system_error(self._open())
         if error:
             raise UdpError(error, os.strerror(error))
-        self._node._raise(status)
+        self._raise(status)
 
     # --- what the program does
 
@@ -205,9 +219,27 @@ class Driven:
         turned: bool = self._short.dt_udp_flush_since(self._handle or self._open(), at)
         return turned
 
-    def call(self, flow: Flow, octets: bytes, timeout_ms: int) -> _c.CallResult:
-        made: _c.CallResult = self._call(self._handle or self._open(), flow_to_c(flow), octets, len(octets), timeout_ms)
-        return made
+    def begin(self, flow: Flow, octets: bytes, timeout_ms: int, user: int) -> bool:
+        """Has a call made at the next turn, whose end has `user`. Returns whether there was room for it. Raises
+        InvalidArgument if a number is out of range, or it has more octets than any call; Forked or Stopped."""
+        if not self._handle:
+            self._open()
+        source, source_port, target, target_port = flow
+        count, at, size = self._call_count, self._payloads_used, len(octets)
+        if size > _c.MAX_PAYLOAD:
+            raise InvalidArgument(f"a call on {flow} has {size} octets; at most cap - 8 fit")
+        if count == MAX_ITEMS or at + size > ROOM:
+            return False
+        try:
+            _CALL.pack_into(
+                self._calls_view, count * _CALL.size, source, target, source_port, target_port, timeout_ms, size, user
+            )
+        except struct.error:
+            flow_to_c(flow)  # (raises which one)
+            raise InvalidArgument(f"a call on {flow}: timeout_ms is {timeout_ms}; it has 32 bits") from None
+        self._payloads_view[at : at + size] = octets
+        self._call_count, self._payloads_used = count + 1, at + size
+        return True
 
     def _put_token(self, flow: Flow, call: int) -> None:
         try:
@@ -232,6 +264,74 @@ class Driven:
     @property
     def unknown(self) -> int:
         return int(self._counts.unknown) if self._handle else self._ended[1]
+
+
+class Driven(Driver):
+    """The driver of a node that the program opened."""
+
+    def __init__(self, node: AnyNode, bind: tuple[str, int], watch: bool) -> None:
+        """Binds the socket. Raises UdpError if the system refuses it, InvalidArgument or OutOfMemory."""
+        self._node, failures = node, list[BaseException]()
+        host, port = _numeric(bind)
+        options, given, error = _c.sized(_c_udp.Options), _c.sized(_c_udp.Driven), _c_udp.Error()
+        options.node, options.host, options.port = node.number, host, port
+        options.params = ctypes.pointer(params_of(node.params))
+        options.flags = 0 if watch else _c_udp.Flag.WITHOUT_WATCH
+        links = (_c.Link * max(len(node.links), 1))(*(_c.Link(it.charge, it.pace, it.number) for it in node.links))
+        given.links, given.link_count = links, len(node.links)
+        setattr(given, node._DRIVEN_AS, node._handle)
+        # (the driver has their addresses until it is closed)
+        kept = [_hooked(node, given, failures) if is_hooked(node) else _kept(node, given, failures), links]
+        handle: int | None = drivers().waits.dt_udp_drive(given, options, error)
+        if not handle:
+            refuse(error)
+        super().__init__(handle, kept, failures)
+
+    def _open(self) -> int:
+        """The driver's address. Raises Forked in a child of the process that opened it, or Stopped."""
+        if not self._handle:
+            self._node._handle
+            raise Stopped(f"node {self._node.number} is closed: open it again with Start.AGAIN")
+        return self._handle
+
+    def _raise(self, status: int) -> None:
+        self._node._raise(status)
+
+    def set_neighbour(self, number: int, link: int, address: tuple[str, int]) -> None:
+        """Sets the address of a node at the other end of a link. Raises InvalidArgument or OutOfMemory."""
+        error = _c_udp.Error()
+        if self._waits.dt_udp_set_neighbour(self._open(), _c.Route(number, link), *_numeric(address), error):
+            refuse(error)
+
+
+def _hooked(node: AnyNode, given: _c_udp.Driven, failures: list[BaseException]) -> object:
+    """Has the node's own functions called, which tell its state of each input."""
+    it = Hooked(node, failures)
+    given.hooks = ctypes.pointer(it.hooks)
+    return it
+
+
+def _kept(node: AnyNode, given: _c_udp.Driven, failures: list[BaseException]) -> object:
+    """Has the node's state told of each input before it is done."""
+    state = node._state
+    if state is None:
+        return None
+    keeper = getattr(state, "_keeper", None)
+    extends = state.note_packet if keeper is None else state._extend
+    if keeper is None:
+        keeper = _c_udp.Keeper()
+
+    def extend(_: object, at: int) -> bool:
+        try:
+            extends(at)
+        except BaseException as why:
+            failures.append(why)
+            return False
+        return True
+
+    keeper.extend = _c_udp.KeeperExtend(extend)
+    given.keeper = ctypes.pointer(keeper)
+    return keeper
 
 
 def _close(library: ctypes.CDLL, handle: int, its_socket: socket.socket, kept: list[object]) -> None:

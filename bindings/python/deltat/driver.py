@@ -19,52 +19,40 @@
         answer = driver.Calls(udp).call(deltat.Flow(number, 10, 2, 20), b"hello", timeout=5.0)
 
 `Udp` has the socket, the clock and the timer, and keeps the duties of include/deltat.h. Its plain loop is `poll` and
-iteration, as that of `deltat.Udp`; `Calls` and `AsyncCalls` have the names of those of `deltat`. A driver is used by
-one thread at a time, and by the process that opened it. Objects and reports aren't in this module.
+iteration, as that of `deltat.Udp`. `Calls` is `deltat.Calls`, and `AsyncCalls` is `deltat.AsyncCalls` over this `Udp`.
+A driver is used by one thread at a time, and by the process that opened it. Objects and reports aren't in this module.
 
 The library is looked for as that of `deltat.Udp` is."""
 
 from __future__ import annotations
 
-import asyncio
 import ctypes
 import math
 import os
-import time
-from collections import deque
-from collections.abc import AsyncIterator, Awaitable, Callable, Iterator
+from collections.abc import Iterable, Iterator
+from typing import Self
 
 from . import _c, _c_udp
-from ._c import Cause, PortKind, Start, Status
-from ._c_udp import Error as _Error
-from ._c_udp import Event as _Event
+from . import service as _service
+from ._c import PortKind, Start, Status
 from ._c_udp import EventKind as _Kind
 from ._library import drivers
-from .driven import refuse
-from .errors import Declined, DeltatError, Full, InvalidArgument, OutOfMemory, Quiet, Stopped, UdpError, Unsure
-from .service import Request, Token, _gone, _invalid, _ms, _token
+from .driven import Driver, refuse
+from .errors import Full, InvalidArgument, Quiet, UdpError
+from .service import Calls
+from .udp import AnyAsyncUdp, AnyUdp, Desk
 from .values import Flow, Message, Params, flow_from_c, flow_to_c, in_range, octets_of, params_of
+from .watch import Alarm
 
 __all__ = ["AsyncCalls", "Calls", "Udp", "UdpError"]
-
-_waits, _library = drivers()
-
 
 
 def _milliseconds(seconds: float | None) -> int:
     return -1 if seconds is None else min(max(math.ceil(seconds * 1000), 0), 0x7FFFFFFF)
 
 
-def _check(status: int) -> None:
-    """Raises what a status means that any call may return."""
-    if status == Status.NO_MEMORY:
-        raise OutOfMemory("out of memory; close the driver and open it again")
-    if status in (Status.NOT_OPEN, Status.STOPPED):
-        raise Stopped("the driver failed, or this is a forked child; open a driver again")
-
-
-class Udp:
-    """A node, or with `service` a service, over a UDP socket, for one thread."""
+class Udp(AnyUdp):
+    """A node, or with `service` a service, over a UDP socket, for one thread (but see `background`)."""
 
     def __init__(
         self,
@@ -98,62 +86,55 @@ class Udp:
         options.role, options.start_as = _c_udp.Role.SERVICE if service else _c_udp.Role.NODE, start or 0
         options.state = None if state is None else os.fsencode(state)
         options.max_peers, options.flags = in_range(max_peers, 32, "max_peers"), in_range(flags, 32, "flags")
-        self.node, self.params, error = node, params, _Error()
-        self._handle: int | None = _waits.dt_udp_open(options, error)
-        self._event: _Event | None = None
-        if not self._handle:
+        self.node, self.params, error = node, params, _c_udp.Error()
+        handle: int | None = drivers().waits.dt_udp_open(options, error)
+        if not handle:
             refuse(error)
-
-    def __enter__(self) -> Udp:
-        return self
-
-    def __exit__(self, *_: object) -> None:
-        self.close()
+        super().__init__(Driver(handle, [], []), node)
+        self._is_service = service
 
     def close(self) -> None:
         """Closes the socket and the node. Nothing is sent: `drain` first, if what was sent should still arrive. Called
         again it does nothing."""
-        handle, self._handle, self._event = self._handle, None, None
-        if handle:
-            _waits.dt_udp_close(handle)
+        super().close()
 
-    def _open(self) -> int:
-        if not self._handle:
-            raise Stopped("the driver is closed; open one again")
-        return self._handle
+    def _new_desk(self) -> Desk:
+        return _service._Desk() if self._is_service else super()._new_desk()
 
     def set_peer(self, node: int, host: str, port: int | str) -> None:
         """Sets the address of a node. Raises InvalidArgument if there is no such address; OutOfMemory or Stopped."""
-        error = _Error()
+        error, driven = _c_udp.Error(), self._driven
         number = in_range(node, 32, "node")
-        if _waits.dt_udp_set_peer(self._open(), number, host.encode(), str(port).encode(), error):
+        if driven._waits.dt_udp_set_peer(driven._open(), number, host.encode(), str(port).encode(), error):
             refuse(error)
 
     def open_port(self, port: int, kind: PortKind | None = None) -> None:
         """Opens a port: of a service as a caller's or a service's. InvalidArgument: it is open, or has no such kind."""
-        number = in_range(port, 16, "port")
-        status = _library.dt_udp_open_port(self._open(), number, kind or 0)
+        number, driven = in_range(port, 16, "port"), self._driven
+        status = driven._short.dt_udp_open_port(driven._open(), number, kind or 0)
         if status == Status.EXISTS:
             raise InvalidArgument(f"port {port} is open already")
         if status == Status.INVALID:
             raise InvalidArgument(f"port {port} can't be {kind}")
-        _check(status)
+        driven.check(status)
 
-    def _next(self, wait_ms: int) -> _Event:
-        """The next event, which is the same object each time."""
-        library = _library if wait_ms == 0 else _waits
-        found = library.dt_udp_next_event(self._open(), wait_ms)
-        if self._event is None:
-            self._event = found.contents
-        event = self._event
+    def _next(self, wait_ms: int) -> _c_udp.Event:
+        """The next event of a node, which is the same object each time."""
+        driven = self._driven
+        library = driven._waits if wait_ms else driven._short
+        event: _c_udp.Event = library.dt_udp_next_event(driven._open(), wait_ms).contents
         if event.kind == _Kind.FAILED:
-            if event.system_error:
-                raise UdpError(event.system_error, os.strerror(event.system_error))
-            _check(event.cause)
+            driven.check(event.cause)
+        if event.kind == _Kind.ALARM:
+            self.alarms.ring(self.node, event.peer, Alarm(event.cause))
         return event
 
     def poll(self, timeout: float | None = 0.0) -> list[Message]:
-        """The messages that are whole, waiting at most `timeout` seconds for the first one (None: without limit)."""
+        """The messages that are whole, waiting at most `timeout` seconds for the first one (None: without limit). A
+        service has none: it receives what arrived and does what is due, and its `Calls` take the events."""
+        if self._is_service:
+            self._turn(timeout)
+            return []
         found, event = [], self._next(_milliseconds(timeout))
         while event.kind != _Kind.NONE:
             if event.kind == _Kind.MESSAGE:
@@ -169,312 +150,63 @@ class Udp:
     def send(self, flow: Flow, octets: bytes) -> None:
         """Sends a whole message, at once. Raises Quiet, Full, InvalidArgument or Stopped: none of it was taken;
         OutOfMemory: it may have been."""
-        given = octets_of(octets)
-        it = _library.dt_udp_send(self._open(), flow_to_c(flow), given, len(given))
-        _library.dt_udp_flush(self._handle)
+        given, driven = octets_of(octets), self._driven
+        it = driven._short.dt_udp_send(driven._open(), flow_to_c(flow), given, len(given))
+        driven._short.dt_udp_flush(driven._open())
         if it.status == Status.QUIET:
             raise Quiet(it.quiet_until)
         if it.status == Status.FULL:
             raise Full(it.free)
         if it.status == Status.INVALID:
             raise InvalidArgument(f"{len(given)} octets on {flow} can't be sent from node {self.node}")
-        _check(it.status)
+        driven.check(it.status)
 
     def flush(self) -> None:
         """Puts what waits on the wire now."""
-        _library.dt_udp_flush(self._open())
+        self._driven._short.dt_udp_flush(self._driven._open())
 
     def drain(self, seconds: float | None = None) -> bool:
         """Waits until all that was sent is acknowledged or uncertain: whether that was within so many seconds."""
-        status = _waits.dt_udp_drain(self._open(), _milliseconds(seconds))
-        _check(status)
+        driven = self._driven
+        status = driven._waits.dt_udp_drain(driven._open(), _milliseconds(seconds))
+        if status != Status.NONE:
+            driven.check(status)
         return bool(status == Status.OK)
 
     def fileno(self) -> int:
         """A descriptor that is readable if something arrived or is due."""
-        found: int = _library.dt_udp_fd(self._open())
-        if found < 0:
-            raise UdpError(ctypes.get_errno(), "the driver has no descriptor")
-        return found
+        return self._driven.fileno()
 
     @property
     def port(self) -> int:
         """The UDP port of the socket."""
-        return int(_library.dt_udp_local_port(self._open()))
+        return int(self._driven._short.dt_udp_local_port(self._driven._open()))
 
     @property
     def life(self) -> int:
         """The life of this opening."""
-        return int(_library.dt_udp_life(self._open()))
+        return int(self._driven._short.dt_udp_life(self._driven._open()))
 
     @property
     def silence(self) -> float:
         """For how many seconds the node is still silent after its start."""
-        return float(_library.dt_udp_silent_ms(self._open()) / 1000)
+        return float(self._driven._short.dt_udp_silent_ms(self._driven._open()) / 1000)
 
 
-# --- calls
-
-
-def _made(udp: Udp, flow: Flow, payload: bytes, timeout: float) -> int:
-    """Makes a call and returns its number."""
-    octets = octets_of(payload)
-    it = _library.dt_udp_call(udp._open(), flow_to_c(flow), octets, len(octets), _ms(timeout))
-    if it.status == Status.OK:
-        number: int = it.call
-        return number
-    if it.status in (Status.QUIET, Status.FULL, Status.TOO_MANY_CALLS, Status.LIFE_USED_UP):
-        raise Declined(Status(it.status), it.quiet_until, it.free)
-    if it.status == Status.INVALID:
-        raise _invalid(f"a call of {len(octets)} octets on {flow}", it.invalid)
-    _check(it.status)
-    raise DeltatError(f"status {it.status}")
-
-
-def _replied(udp: Udp, token: Token, payload: bytes) -> None:
-    octets = octets_of(payload)
-    it = _library.dt_udp_reply(udp._open(), _token(token), octets, len(octets))
-    if it.status == Status.FULL:
-        raise Full(it.free)
-    if it.status == Status.INVALID:
-        raise _invalid(f"a reply of {len(octets)} octets", it.invalid)
-    if it.status == Status.GONE:
-        raise _gone(token)
-    _check(it.status)
-
-
-def _forgotten(udp: Udp, token: Token) -> None:
-    _check(_library.dt_udp_forget(udp._open(), _token(token)))
-
-
-class Calls:
-    """Calls and requests over a driver that was opened with `service`, for one thread."""
-
-    def __init__(self, udp: Udp) -> None:
-        self.udp = udp
-        self._requests: deque[Request] = deque()
-        self._ends: dict[int, bytes | Cause] = {}
-        self._functions: dict[int, Callable[[Request], bytes | None]] = {}
-        self.uncertain: set[Flow] = set()
-        """Flows of requests whose replies were given up: each was delivered once or not at all. Take them out."""
-
-    def call(self, flow: Flow, payload: bytes, timeout: float = 5.0) -> bytes:
-        """Makes a call, and returns its answer, within `timeout` seconds. Raises Unsure; Declined, InvalidArgument or
-        Stopped if it wasn't made; OutOfMemory: take the call as unsure."""
-        number = _made(self.udp, flow, payload, timeout)
-        ends, step = self._ends, self._step
-        while number not in ends:
-            step(-1)
-        return _answer(ends.pop(number))
-
-    def _step(self, wait_ms: int) -> None:
-        event = self.udp._next(wait_ms)
-        kind = event.kind
-        if kind == _Kind.ANSWERED:
-            self._ends[event.call] = ctypes.string_at(event.octets, event.len)
-        elif kind == _Kind.REQUEST:
-            self._requests.append(_request(event))
-        elif kind == _Kind.UNSURE:
-            self._ends[event.call] = Cause(event.cause)
-        elif kind == _Kind.REPLY_UNCERTAIN:
-            self.uncertain.add(flow_from_c(event.flow))
-
-    def requests(self, seconds: float | None = None) -> Iterator[Request]:
-        """The requests that arrive, for so long at most after the last one (None: without end)."""
-        while True:
-            end = None if seconds is None else time.monotonic() + seconds
-            while not self._requests:
-                left = None if end is None else end - time.monotonic()
-                if left is not None and left <= 0:
-                    return
-                self._step(_milliseconds(left))
-            while self._requests:
-                yield self._requests.popleft()
-
-    def reply(self, token: Token, payload: bytes, seconds: float = 60.0) -> None:
-        """Replies, as soon as there is room, for so long at most. Gone, Full or InvalidArgument."""
-        end = time.monotonic() + seconds
-        while True:
-            try:
-                return _replied(self.udp, token, payload)
-            except Full:
-                if time.monotonic() >= end:
-                    raise
-            self._step(50)
-
-    def on(self, port: int) -> Callable[[Callable[[Request], bytes | None]], Callable[[Request], bytes | None]]:
-        """Decorates the function that serves a port: what it returns is the reply. If it returns None or raises, the
-        request is forgotten: its caller is unsure when its timeout is over."""
-
-        def serves(function: Callable[[Request], bytes | None]) -> Callable[[Request], bytes | None]:
-            self._functions[port] = function
-            return function
-
-        return serves
-
-    def run(self, seconds: float | None = None) -> None:
-        """Serves, for so long at most after the last request (None: without end). What a function raises is raised
-        here, when its request is forgotten."""
-        for request in self.requests(seconds):
-            function, reply = self._functions.get(request.token.flow.target_port), None
-            try:
-                reply = function(request) if function else None
-            finally:
-                if reply is None:
-                    _forgotten(self.udp, request.token)
-            if reply is not None:
-                self.reply(request.token, reply)
-
-
-def _request(event: _Event) -> Request:
-    token = event.token
-    return Request(Token(flow_from_c(token.flow), token.call), ctypes.string_at(event.octets, event.len))
-
-
-def _answer(end: bytes | Cause) -> bytes:
-    if isinstance(end, Cause):
-        raise Unsure(end)
-    return end
-
-
-_Serves = Callable[[Request], Awaitable[bytes | None]]
-
-
-class AsyncCalls:
-    """The same in the running loop of asyncio: many calls may wait at once, and many requests be served. Use it as
+class AsyncCalls(_service.AsyncCalls):
+    """`deltat.AsyncCalls` over a driver that was opened with `service`, in the running loop of asyncio. Use it as
     `async with`, or call `close` at the end: the driver itself stays open."""
 
-    def __init__(self, udp: Udp) -> None:
-        """Joins the running loop: RuntimeError if none runs."""
-        self.udp = udp
-        self._loop = asyncio.get_running_loop()
-        self._ends: dict[int, asyncio.Future[bytes]] = {}
-        self._requests: deque[Request] = deque()
-        self._changed = asyncio.Event()
-        self._functions: dict[int, _Serves] = {}
-        self.uncertain: set[Flow] = set()
-        """As that of `Calls`."""
-        self._tasks: set[asyncio.Task[None]] = set()
-        self._failure: DeltatError | None = None
-        self._flushes = False
-        self._fd = udp.fileno()
-        self._loop.add_reader(self._fd, self._turn)
-        self._turn()
+    def __init__(self, udp: Udp, ports: Iterable[int] = (), workers: int = 1) -> None:
+        """Joins the running loop: RuntimeError if none runs. Raises what `deltat.AsyncCalls` raises."""
+        super().__init__(AnyAsyncUdp(udp), ports, workers)
 
-    async def __aenter__(self) -> AsyncCalls:
+    async def __aenter__(self) -> Self:
         return self
 
     async def __aexit__(self, *_: object) -> None:
         self.close()
 
     def close(self) -> None:
-        """Leaves the loop: calls that wait raise Stopped."""
-        if self._fd >= 0:
-            self._loop.remove_reader(self._fd)
-            self._fd = -1
-        self._fail(Stopped("the calls are closed"))
-
-    def _fail(self, why: DeltatError) -> None:
-        self._failure = self._failure or why
-        for end in self._ends.values():
-            if not end.done():
-                end.set_exception(self._failure)
-        self._changed.set()
-
-    def _turn(self) -> None:
-        """Takes all events that there are. What was sent leaves too."""
-        self._flushes = False
-        if self._fd < 0:
-            return
-        try:
-            while kind := (event := self.udp._next(0)).kind:
-                if kind == _Kind.ANSWERED or kind == _Kind.UNSURE:
-                    self._end(event)
-                elif kind == _Kind.REQUEST:
-                    self._requests.append(_request(event))
-                    self._changed.set()
-                elif kind == _Kind.REPLY_UNCERTAIN:
-                    self.uncertain.add(flow_from_c(event.flow))
-        except DeltatError as why:
-            self._loop.remove_reader(self._fd)
-            self._fd = -1
-            self._fail(why)
-            return
-        if not self._changed.is_set():
-            self._changed.set()
-
-    def _end(self, event: _Event) -> None:
-        end = self._ends.pop(event.call, None)
-        if end is None or end.done():
-            return
-        if event.kind == _Kind.ANSWERED:
-            end.set_result(ctypes.string_at(event.octets, event.len))
-        else:
-            end.set_exception(Unsure(Cause(event.cause)))
-
-    def _soon(self) -> None:
-        """Has what was sent leave when the loop comes round: what others send meanwhile leaves with it."""
-        if not self._flushes:
-            self._flushes = True
-            self._loop.call_soon(self._turn)
-
-    async def call(self, flow: Flow, payload: bytes, timeout: float = 5.0) -> bytes:
-        """Makes a call, and returns its answer, within `timeout` seconds. Raises Unsure; Declined, InvalidArgument or
-        Stopped if it wasn't made. If the wait is cancelled the call continues, and its end is dropped."""
-        if self._failure:
-            raise self._failure
-        number = _made(self.udp, flow, payload, timeout)
-        end: asyncio.Future[bytes] = self._loop.create_future()
-        self._ends[number] = end
-        self._soon()
-        return await end
-
-    async def reply(self, token: Token, payload: bytes) -> None:
-        """Replies, as soon as there is room. Gone or InvalidArgument, OutOfMemory or Stopped."""
-        while True:
-            if self._failure:
-                raise self._failure
-            self._soon()
-            try:
-                return _replied(self.udp, token, payload)
-            except Full:
-                self._changed.clear()
-                await self._changed.wait()
-
-    async def requests(self) -> AsyncIterator[Request]:
-        """The requests that arrive, without end."""
-        while True:
-            while self._requests:
-                yield self._requests.popleft()
-            if self._failure:
-                raise self._failure
-            self._changed.clear()
-            await self._changed.wait()
-
-    def on(self, port: int) -> Callable[[_Serves], _Serves]:
-        """Decorates the coroutine that serves a port, as `Calls.on`. Several may be under way at once. If one raises,
-        its request is forgotten, and `run` continues: asyncio logs what it raised."""
-
-        def serves(function: _Serves) -> _Serves:
-            self._functions[port] = function
-            return function
-
-        return serves
-
-    async def run(self) -> None:
-        """Serves, until it is cancelled."""
-        async for request in self.requests():
-            task = self._loop.create_task(self._serve(request))
-            self._tasks.add(task)
-            task.add_done_callback(self._tasks.discard)
-
-    async def _serve(self, request: Request) -> None:
-        function, reply = self._functions.get(request.token.flow.target_port), None
-        try:
-            reply = await function(request) if function else None
-        finally:
-            if reply is None:
-                _forgotten(self.udp, request.token)
-                self._soon()
-        if reply is not None:
-            await self.reply(request.token, reply)
+        """Leaves the loop: calls that wait are unsure. Called again it does nothing."""
+        self.udp.close()

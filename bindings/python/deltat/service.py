@@ -33,6 +33,7 @@ import asyncio
 import contextlib
 import ctypes
 import inspect
+import itertools
 import logging
 import time
 import weakref
@@ -46,10 +47,10 @@ from . import _c, clock
 from ._c import Cause, EventKind, InvalidReason, PortKind, Start, Status
 from ._c_udp import EventKind as Kind
 from ._library import library
-from .errors import Declined, Forked, Full, Gone, InvalidArgument, OutOfMemory, Stopped, Unsure
+from .errors import Declined, DeltatError, Forked, Full, Gone, InvalidArgument, OutOfMemory, Stopped, Unsure
 from .node import AnyNode, Exports
-from .driven import Driven
-from .udp import AsyncUdp, Udp
+from .driven import Driver
+from .udp import AnyAsyncUdp, AnyUdp
 from .values import Flow, Link, Params, flow_from_c, flow_to_c, in_range, octets_of
 
 if TYPE_CHECKING:
@@ -63,6 +64,10 @@ _INVALID = {
     InvalidReason.TIMEOUT: "timeout_ms is 0; it must be at least 1",
     InvalidReason.TOTAL: "2^62 octets would have been passed in",
 }
+
+
+_FIRST_USER = 1 << 63
+"""The users of calls by `Calls` are counted from here on, and those that a program gives to `Service.call` are lower."""
 
 
 class Token(NamedTuple):
@@ -162,7 +167,7 @@ class Service(AnyNode):
         super().__init__(node, params, links, routes, start, state)
         self.limits, self.life = limits, life or 0 if self._state is None else self._state.life
         self._kinds: dict[int, PortKind] = {}
-        self._desk = _Desk(self)
+        self._desk = _Desk()
         self._event = _c.sized(_c.Event)
         options.life = self.life
         self._open(at, options)
@@ -197,15 +202,8 @@ class Service(AnyNode):
             self._handle, self._noted(at), flow_to_c(flow), octets, len(octets), timeout_ms, user
         )
         if made.status != Status.OK:
-            self._decline(flow, made)
+            raise _declined(self._raise, flow, made)
         return int(made.call)
-
-    def _decline(self, flow: Flow, made: _c.CallResult) -> NoReturn:
-        """Raises why a call wasn't made."""
-        if made.status == Status.INVALID:
-            raise _invalid(f"a call on {flow}", made.invalid)
-        self._raise(made.status)
-        raise Declined(Status(made.status), made.quiet_until, made.free)
 
     def reply(self, token: Token, payload: bytes, at: int | None = None) -> None:
         """Replies to a request, once. Raises Gone; Full: try again later (a reply needs 8 octets more than its
@@ -214,16 +212,7 @@ class Service(AnyNode):
         octets = octets_of(payload)
         it = library.dt_service_reply(self._handle, self._noted(at), _token(token), octets, len(octets))
         if it.status != Status.OK:
-            self._refuse_reply(token, it)
-
-    def _refuse_reply(self, token: Token, it: _c.ReplyResult) -> NoReturn:
-        """Raises why a reply wasn't sent."""
-        if it.status == Status.FULL:
-            raise Full(it.free)
-        if it.status == Status.INVALID:
-            raise _invalid(f"a reply to call {token.call} on {token.flow}", it.invalid)
-        self._raise(it.status)
-        raise _gone(token)
+            _refuse_reply(self._raise, token, it)
 
     def forget(self, token: Token, at: int | None = None) -> None:
         """Closes a request without a reply: its caller becomes unsure. Raises Gone, OutOfMemory or Stopped."""
@@ -281,6 +270,24 @@ def _invalid(what: str, invalid: int) -> InvalidArgument:
     return InvalidArgument(f"{what}: {_INVALID[reason]}", reason=reason)
 
 
+def _declined(raises: Callable[[int], None], flow: Flow, made: _c.CallResult) -> InvalidArgument | Declined:
+    """Returns why a call wasn't made. Raises it for a status that is for good, by `raises`."""
+    if made.status == Status.INVALID:
+        return _invalid(f"a call on {flow}", made.invalid)
+    raises(made.status)
+    return Declined(Status(made.status), made.quiet_until, made.free)
+
+
+def _refuse_reply(raises: Callable[[int], None], token: Token, it: _c.ReplyResult) -> NoReturn:
+    """Raises why a reply wasn't sent."""
+    if it.status == Status.FULL:
+        raise Full(it.free)
+    if it.status == Status.INVALID:
+        raise _invalid(f"a reply to call {token.call} on {token.flow}", it.invalid)
+    raises(it.status)
+    raise _gone(token)
+
+
 def _gone(token: Token) -> Gone:
     return Gone(f"call {token.call} on {token.flow} has a reply, was forgotten, or is of an earlier life")
 
@@ -314,7 +321,7 @@ class _Ends(Protocol):
 
     def set_result(self, answer: bytes, /) -> None: ...
 
-    def set_exception(self, why: Unsure, /) -> None: ...
+    def set_exception(self, why: DeltatError, /) -> None: ...
 
 
 class _End:
@@ -324,7 +331,7 @@ class _End:
 
     def __init__(self) -> None:
         self.answer, self.is_over = b"", False
-        self.why: Unsure | None = None
+        self.why: DeltatError | None = None
 
     def done(self) -> bool:
         return self.is_over
@@ -332,22 +339,23 @@ class _End:
     def set_result(self, answer: bytes) -> None:
         self.answer, self.is_over = answer, True
 
-    def set_exception(self, why: Unsure) -> None:
+    def set_exception(self, why: DeltatError) -> None:
         self.why, self.is_over = why, True
 
 
 _made = tuple.__new__
 _ANSWERED, _REQUEST, _UNSURE = int(Kind.ANSWERED), int(Kind.REQUEST), int(Kind.UNSURE)
+_UNCERTAIN, _TOO_BIG = int(Kind.REPLY_UNCERTAIN), int(Kind.TOO_BIG)
 
 
 class _Desk:
     """Takes the events of a service: the end of each call goes to who waits for it, each request into the line of who
     serves its port. A node has one, however many `Calls` there are over its socket."""
 
-    def __init__(self, node: Service) -> None:
-        # (the node has the desk)
-        self._node = weakref.ref(node)
+    def __init__(self) -> None:
+        # who waits for the end of each call, by the number that the call was given as its user
         self.ends: dict[int, _Ends] = {}
+        self.users = itertools.count(_FIRST_USER)
         # the lines of ports that are served, the requests for other ports, and the lines that are waited for
         self.lines: weakref.WeakValueDictionary[int, _Line] = weakref.WeakValueDictionary()
         self.others: deque[Request] = deque()
@@ -378,32 +386,58 @@ class _Desk:
         """Returns the first request that waits in a line, or else one for a port that nobody serves."""
         return line.requests.popleft() if line.requests else self.others.popleft() if self.others else None
 
-    def turn(self, driven: Driven, wait_ms: int) -> None:
+    def begin(self, driven: Driver, end: _Ends, flow: Flow, payload: bytes, timeout: float) -> int:
+        """Has a call made at the next turn, and returns its user. Raises InvalidArgument or TypeError."""
+        octets, timeout_ms, user = octets_of(payload), _ms(timeout), next(self.users)
+        while not driven.begin(flow, octets, timeout_ms, user):
+            self.turn(driven, 0)
+        self.ends[user] = end
+        return user
+
+    def turn(self, driven: Driver, wait_ms: int) -> None:
         """Has the driver take a turn, and passes on the events that it took. Raises OutOfMemory or Stopped, after
         that."""
         status = driven.turn(wait_ms)
         if driven.count:
             self._pass_on(driven)
+        while driven.refused:
+            self._refuse(driven, driven.refused)
+            status = status or driven.turn()
+            if driven.count:
+                self._pass_on(driven)
         if status:
             driven.check(status)
 
-    def _pass_on(self, driven: Driven) -> None:
+    def _refuse(self, driven: Driver, refused: tuple[int, Flow, _c.CallResult]) -> None:
+        """Ends a call that wasn't made."""
+        user, flow, made = refused
+        end = self.ends.pop(user, None)
+        try:
+            why: DeltatError = _declined(driven.check, flow, made)
+        except DeltatError as for_good:
+            why = for_good
+        if end is not None and not end.done():
+            end.set_exception(why)
+
+    def _pass_on(self, driven: Driver) -> None:
         ends, (items, octets) = self.ends, driven.events()
-        for call, at, size, source, target, source_port, target_port, kind, cause in items:
+        for call, at, size, source, target, source_port, target_port, kind, cause, user in items:
             if kind == _ANSWERED or kind == _UNSURE:
-                end = ends.pop(call, None)
+                end = ends.pop(user, None)
                 if end is None or end.done():
                     continue
                 if kind == _ANSWERED:
-                    end.set_result(octets[at : at + size])
+                    end.set_result(bytes(octets[at : at + size]))
                 else:
                     end.set_exception(Unsure(Cause(cause)))
                 continue
             flow = _made(Flow, (source, source_port, target, target_port))
             if kind == _REQUEST:
-                self._ask(_made(Request, (_made(Token, (flow, call)), octets[at : at + size])))
-            else:
+                self._ask(_made(Request, (_made(Token, (flow, call)), bytes(octets[at : at + size]))))
+            elif kind == _UNCERTAIN:
                 self.uncertain.add(flow)
+            elif kind == _TOO_BIG:
+                _log.warning("a datagram of %d octets to node %d doesn't fit the path; make seg smaller", size, target)
 
     def _ask(self, request: Request) -> None:
         """Puts a request into the line of its port."""
@@ -426,13 +460,6 @@ class _Desk:
             line.wake()
 
 
-def _service(node: AnyNode) -> Service:
-    """Returns the node, if it is a service. Raises InvalidArgument if it isn't."""
-    if not isinstance(node, Service):
-        raise InvalidArgument(f"node {node.number} isn't a deltat.Service: it has plain messages, and no calls")
-    return node
-
-
 Serves = Callable[[Request], bytes | None]
 ServesSometime = Callable[[Request], bytes | None | Awaitable[bytes | None]]
 
@@ -443,34 +470,36 @@ class Calls:
     There may be several over one socket. Each call gets its own end. A request goes to those `Calls` that serve its
     port, by `ports` or by a function (`on`); one for a port that nobody named goes to any."""
 
-    def __init__(self, udp: Udp, ports: Iterable[int] = ()) -> None:
+    def __init__(self, udp: AnyUdp, ports: Iterable[int] = ()) -> None:
         """Raises InvalidArgument if the socket's node isn't a service, or other `Calls` serve a port."""
-        self.udp: Udp = udp
-        self.node: Service = _service(udp.node)
-        self._desk = self.node._desk
+        self.udp = udp
+        self._desk = _desk_of(udp)
         self._line = self._desk.opened(ports)
         self.uncertain: set[Flow] = self._desk.uncertain
         """The flows of requests of which a reply was given up, of all `Calls` over this socket. The program removes
         those that it has handled."""
         self._functions: dict[int, Serves] = {}
-        udp._attend(self._desk)
+
+    @property
+    def node(self) -> Service:
+        """The service that the socket drives. Raises InvalidArgument if the driver opened it itself."""
+        return _service_of(self.udp)
 
     def call(self, flow: Flow, payload: bytes, timeout: float = 5.0) -> bytes:
         """Makes a call, and returns its answer, within `timeout` seconds. Raises Unsure; Declined, InvalidArgument or
         Stopped if it wasn't made; OutOfMemory if the node ran out of memory in it: take the call as unsure."""
-        end, udp, ends = _End(), self.udp, self._desk.ends
+        end, udp, desk = _End(), self.udp, self._desk
         udp._enter()
         with udp._lock:
-            number = _call(udp, flow, payload, timeout)
-            ends[number] = end
+            user = desk.begin(udp._driven, end, flow, payload, timeout)
         try:
             while not end.is_over:
-                udp._turn(None)
+                udp._turn_for_events()
         except (OutOfMemory, Stopped):
             if not end.is_over:
                 raise Unsure(Cause.STOPPED) from None
         finally:
-            ends.pop(number, None)
+            desk.ends.pop(user, None)
         if end.why:
             raise end.why
         return end.answer
@@ -482,7 +511,7 @@ class Calls:
         while True:
             end = None if seconds is None else time.monotonic() + seconds
             if udp.is_closed:
-                self.node.wake  # Forked, in a child
+                udp._test()
                 return
             while (request := self._desk.next_request(self._line)) is None:
                 left = None if end is None else end - time.monotonic()
@@ -496,7 +525,7 @@ class Calls:
                     return
             yield request
             # (many requests may wait, and each may take its time: the node's work is done between them)
-            udp.flush(clock.now())
+            udp._flush(clock.now())
 
     def reply(self, token: Token, payload: bytes, seconds: float = 60.0) -> None:
         """Replies, as soon as there is room, within this many seconds. Raises Gone, Full or InvalidArgument; TypeError
@@ -512,7 +541,7 @@ class Calls:
                     if time.monotonic() >= end:
                         raise
                 finally:
-                    udp.flush(clock.now())
+                    udp._flush(clock.now())
             udp._turn(0.05)
 
     def on(self, port: int) -> Callable[[Serves], Serves]:
@@ -549,30 +578,33 @@ class Calls:
         udp = self.udp
         with udp._lock, contextlib.suppress(Gone, Stopped):
             _forget(udp, token)
-            udp.flush(clock.now())
+            udp._flush(clock.now())
 
 
 # --- what both kinds of calls do: by the driver, which reads the clock
 
 
-def _call(udp: Udp, flow: Flow, payload: bytes, timeout: float) -> int:
-    """Makes a call, and returns its number. Raises what `Service.call` raises."""
-    octets = octets_of(payload)
-    made = udp._driven.call(flow, octets, _ms(timeout))
-    if made.status:
-        _service(udp.node)._decline(flow, made)
-    number: int = made.call
-    return number
+def _desk_of(udp: AnyUdp) -> _Desk:
+    desk = udp._calls_desk()
+    assert isinstance(desk, _Desk)
+    return desk
 
 
-def _reply(udp: Udp, token: Token, payload: bytes) -> None:
+def _service_of(udp: AnyUdp) -> Service:
+    node = getattr(udp, "node", None)
+    if not isinstance(node, Service):
+        raise InvalidArgument(f"node {udp._number} isn't a deltat.Service of this program")
+    return node
+
+
+def _reply(udp: AnyUdp, token: Token, payload: bytes) -> None:
     """Replies. Raises what `Service.reply` raises."""
     replied = udp._driven.reply(*token, octets_of(payload))
     if replied.status:
-        _service(udp.node)._refuse_reply(token, replied)
+        _refuse_reply(udp._driven.check, token, replied)
 
 
-def _forget(udp: Udp, token: Token) -> None:
+def _forget(udp: AnyUdp, token: Token) -> None:
     """Forgets a request. Raises what `Service.forget` raises."""
     status = udp._driven.forget(*token)
     if status == Status.GONE:
@@ -589,12 +621,11 @@ class AsyncCalls:
     """As `Calls`, over `AsyncUdp`: many calls may wait at once, and many requests be served. Timeouts are in
     seconds."""
 
-    def __init__(self, udp: AsyncUdp, ports: Iterable[int] = (), workers: int = 1) -> None:
+    def __init__(self, udp: AnyAsyncUdp, ports: Iterable[int] = (), workers: int = 1) -> None:
         """As `Calls`. `workers`: how many threads run the plain functions that serve ports."""
-        self.udp: AsyncUdp = udp
-        self.node: Service = _service(udp.node)
+        self.udp = udp
         self._loop = udp._loop
-        self._desk = self.node._desk
+        self._desk = _desk_of(udp.udp)
         self._came = asyncio.Event()
         self._line = self._desk.opened(ports, self._came.set)
         self.uncertain: set[Flow] = self._desk.uncertain
@@ -602,8 +633,12 @@ class AsyncCalls:
         self._functions: dict[int, Callable[[Request], Awaitable[bytes | None]]] = {}
         self._tasks: set[asyncio.Task[None]] = set()
         # (its threads begin with the first plain function, and end when this is dropped)
-        self._threads = ThreadPoolExecutor(workers, f"deltat node {self.node.number}")
-        udp.udp._attend(self._desk)
+        self._threads = ThreadPoolExecutor(workers, f"deltat node {udp.udp._number}")
+
+    @property
+    def node(self) -> Service:
+        """As that of `Calls`."""
+        return _service_of(self.udp.udp)
 
     async def call(self, flow: Flow, payload: bytes, timeout: float = 5.0) -> bytes:
         """Makes a call, and returns its answer, within `timeout` seconds. Raises Unsure; Declined, InvalidArgument or
@@ -613,13 +648,8 @@ class AsyncCalls:
         if udp._failure:
             udp._check()
         end: asyncio.Future[bytes] = self._loop.create_future()
-        try:
-            self._desk.ends[_call(udp.udp, flow, payload, timeout)] = end
-        except OutOfMemory as why:
-            udp._fail(why)
-            raise
-        finally:
-            udp._soon()
+        self._desk.begin(udp.udp._driven, end, flow, payload, timeout)
+        udp._soon()
         return await end
 
     async def reply(self, token: Token, payload: bytes) -> None:
@@ -705,7 +735,7 @@ class AsyncCalls:
             if not self.udp._failure:
                 _log.exception(
                     "node %d: call %d on %s has no reply: it is forgotten, and its caller will be unsure",
-                    self.node.number,
+                    self.udp.udp._number,
                     token.call,
                     token.flow,
                 )
