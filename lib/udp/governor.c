@@ -15,6 +15,7 @@ enum {
     UNPACED_US = 4000, /* shorter ways than this can't be paced by a clock of milliseconds */
     FEW_SEGMENTS = 8,
     BURST_SEGMENTS = 16,
+    FIRST_ROUNDS = 3, /* in which no loss is counted */
     LONG_ABOVE = 6,  /* rounds above the aim after which others are taken to fill the queue */
     NAMED = 4096,    /* buckets */
     FLOWS = 4096,    /* buckets */
@@ -79,12 +80,19 @@ static void end_round(dt_udp *u, struct watch *it, uint16_t heard, uint64_t now_
     uint64_t base = base_of(g), mean = g->sum_us / g->count, queue = mean > base ? mean - base : 0, aim = aim_of(u, g);
     uint16_t lost = (uint16_t)(g->sent_then - heard), went = (uint16_t)(g->sent_then - g->sent_before);
     int more = (int16_t)(lost - g->lost_before);
+    if (g->rounds < FIRST_ROUNDS) { /* (what waited until its age was known wasn't counted as heard) */
+        g->rounds++;
+        more = 0;
+    }
     bool lossy = more >= 3 && went && more * 20 > went && queue > aim / 8; /* losses without a queue aren't ours */
     uint64_t target = g->above >= LONG_ABOVE && 2 * aim < (uint64_t)u->options.params->mpl * 250 ? 2 * aim : aim;
     if (queue < aim / 2) g->above = 0;
     if (lossy) (void)dt_watch_shrink(it->rules, (uint32_t)(more * 1000 / went));
     else if (queue > target) (void)dt_watch_shrink(it->rules, dt_watch_cut(queue, base, target));
-    else if (g->limited) (void)dt_watch_grow(it->rules, g->fast && queue < aim / 2);
+    else if (g->limited) {
+        (void)dt_watch_grow(it->rules, g->fast && queue < aim / 2);
+        if (g->fast && queue < aim / 4) (void)dt_watch_grow(it->rules, true);
+    }
     if (lossy || queue > aim / 2) g->fast = false;
     if (queue > aim && g->above < LONG_ABOVE) g->above++;
     g->lost_before = lost;

@@ -111,6 +111,7 @@ struct governor {
     int64_t credit;         /* octets that the pace lets go */
     uint16_t sent_then, sent_before, lost_before;
     uint8_t above; /* rounds in a row whose delay was above the aim */
+    uint8_t rounds; /* that ended, up to FIRST_ROUNDS */
     bool fast, limited;
 };
 
