@@ -149,7 +149,7 @@ def told(it: subprocess.Popen[str], seconds: float) -> dict[str, int]:
 
 
 def of_ours(it: subprocess.Popen[str], seconds: float) -> Carried:
-    return Carried(told(it, seconds + 30)["answered"] * LOAD["octets"], seconds)
+    return Carried(told(it, seconds + 30)["in_time"] * LOAD["octets"], seconds)
 
 
 def of_tcp(it: subprocess.Popen[str], seconds: float) -> Carried:
@@ -180,7 +180,9 @@ def two(programs: Programs, queue_ms: int, seconds: float, seed: int) -> str:
         ends = [it.ask(node, seconds=seconds) for node in (1, 3)]
         found = [of_ours(end, seconds) for end in ends]
     share = max(found).octets / max(sum(each.octets for each in found), 1)
-    return f"{found[0]}, {found[1]}: {100 * share:.0f} to {100 - 100 * share:.0f}; longest queue {said['queue_us'] / 1000:.0f} ms"
+    shown = f"{found[0]}, {found[1]}: {100 * share:.0f} to {100 - 100 * share:.0f}; {100 * said['udp_crowded'] / max(said['of_udp'], 1):.1f} % "
+    shown += f"crowded out, longest queue {said['queue_us'] / 1000:.0f} ms"
+    return shown
 
 
 def beside(programs: Programs, how: str, queue_ms: int, seconds: float, seed: int) -> str:

@@ -30,7 +30,7 @@ struct end {
     dt_udp *udp;
     char **words;
     uint32_t node, peer, flows, depth, octets, answer, run, made, answered, unsure, alarms, calls;
-    uint64_t took_ms;
+    uint64_t took_ms, in_time;
     uint32_t under_way[MOST_FLOWS];
     int log;
     uint8_t room[MOST];
@@ -206,7 +206,10 @@ static void ask(struct end *it) {
     for (uint64_t now; !stopped && (now = milliseconds()) < patience;) {
         if (dt_udp_get_counts(it->udp)->datagrams_in >= most) end = now;
         if (now >= end && it->answered + it->unsure == it->made) break;
-        if (now < end) make_calls(it);
+        if (now < end) {
+            make_calls(it);
+            it->in_time = it->answered;
+        }
         dt_udp_flush(it->udp);
         uint32_t before = it->answered + it->unsure;
         handle(it, dt_udp_next_event(it->udp, 20));
@@ -282,10 +285,10 @@ static void tell(const struct end *it) {
            " without_trailer %" PRIu64 " too_old %" PRIu64 " ages_unknown %" PRIu64 " other_parameters %" PRIu64
            " clock_alarms %" PRIu64 " former %" PRIu64 " early %" PRIu64 " proved %" PRIu64 " pings_in %" PRIu64
            " pings_out %" PRIu64 " late %" PRIu64 " false_drops %" PRIu64 " longest_us %" PRIu64 " spare_us %" PRIu64
-           " false_until_us %" PRIu64 " took_ms %" PRIu64 "\n",
+           " false_until_us %" PRIu64 " took_ms %" PRIu64 " in_time %" PRIu64 "\n",
            it->made, it->answered, it->unsure, it->alarms, c->datagrams_in, c->datagrams_out, c->unknown, c->not_sent,
            c->without_trailer, c->too_old, c->ages_unknown, c->other_parameters, c->clock_alarms, c->former_openings,
-           c->early_openings, c->openings_proved, c->pings_in, c->pings_out, judged.late, judged.false_drops, judged.longest, judged.spare, judged.last, it->took_ms);
+           c->early_openings, c->openings_proved, c->pings_in, c->pings_out, judged.late, judged.false_drops, judged.longest, judged.spare, judged.last, it->took_ms, it->in_time);
 }
 
 int main(int count, char **words) {
