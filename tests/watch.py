@@ -12,7 +12,7 @@ counted. Then four runs without the watch, of which three at least must break.
   other_r  the client has another r than the service
   held     the client is stopped between the making of its frames and the socket
   again    the service is started again each 2 s, with old packets under way
-  clock    the client's machine and its clock stand for 0.6 s, with 3 % and 15 % lost: an alarm
+  clock    the client's machine and its clock stand for 0.6 s: an alarm
   turns    calls of one flow that is full hold up no call of another
   form     the trailer's octets, by the worked one of docs/formats.md
   drops    no datagram is dropped that isn't too old: --datagrams of them (20,000) on loopback, over 1 ms, 20 ms and a
@@ -190,7 +190,8 @@ def is_stopped(pid: int) -> bool:
 # --- the cases
 
 QUICK = {"mpl": 60, "r": 100, "rto": 10, "charge": 44}
-SMALL = {"flows": 8, "depth": 2, "octets": 1000, "seconds": 4}
+# (one call at a time on a flow: then each request begins a run, which a receiver without a record takes)
+SMALL = {"flows": 16, "depth": 1, "octets": 1000, "seconds": 4}
 DISK = {"mpl": 400, "r": 300, "rto": 40, "charge": 44}
 DEEP: dict[str, float] = {"delay": 1000, "rate": 50, "queue": 40_000_000}
 
@@ -206,7 +207,7 @@ LINKS = {
     "other_r": (Link({"delay": 1000, "deaf": 700}, QUICK, SMALL | {"r": 2000}, {"r": 50}),),
     "held": (Link({"delay": 1000, "lose_back": 3000}, QUICK, SMALL | {"held": 100, "seconds": 8}),),
     "again": (Link({"delay": 1000, "copy": 200}, QUICK, SMALL | {"seconds": 8}, after=5, restart=2),),
-    "clock": tuple(Link({"delay": 1000, "lose": it}, QUICK, SMALL | {"seconds": 8}, stops=8) for it in (300, 1500)),
+    "clock": (Link({"delay": 1000, "lose_back": 3000}, QUICK, SMALL | {"seconds": 8}, stops=8),),
 }
 # which counter has the cause
 COUNTERS = {
@@ -253,7 +254,7 @@ def form(programs: Programs) -> str:
 PATHS: dict[str, tuple[dict[str, float], dict[str, int], dict[str, int]]] = {
     "loopback": ({"delay": 0}, {"delay_us": 200, "trip_us": 200}, {"flows": 16, "depth": 16, "octets": 4000}),
     "1 ms": ({"delay": 1000}, {"delay_us": 3000, "trip_us": 2000}, {"flows": 16, "depth": 16, "octets": 4000}),
-    "20 ms": ({"delay": 20_000}, {"delay_us": 22_000, "trip_us": 40_000}, {"flows": 64, "depth": 16, "octets": 4000}),
+    "20 ms": ({"delay": 20_000}, {"delay_us": 22_000, "trip_us": 40_000}, {"flows": 64, "depth": 4, "octets": 4000}),
     "bottleneck": (
         {"delay": 20_000, "rate": 100, "queue": 500_000},
         {"delay_us": 62_000, "trip_us": 50_000},

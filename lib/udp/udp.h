@@ -107,9 +107,12 @@ struct governor {
     uint64_t base[2]; /* the least delay of this span and of the last one; DT_NEVER: none was measured */
     uint64_t turned_us, round_us, heard_us, credit_us;
     uint64_t sum_us, count; /* delays of this round */
+    uint64_t target_us;     /* the delay in queues that is let pass: the aim, or more while others fill them */
     int64_t credit;         /* octets that the pace lets go */
     uint16_t sent_then, sent_before, lost_before;
     uint8_t above; /* rounds in a row whose delay was above the aim */
+    uint8_t rounds; /* that ended, up to FIRST_ROUNDS */
+    uint8_t beside; /* rounds in which others filled the queue */
     bool fast, limited;
 };
 
