@@ -25,6 +25,7 @@ static void add(dt_udp *u, struct dt_udp_batch *b, const struct dt_event *it) {
                                                 .kind = KINDS[it->kind],
                                                 .cause = it->cause};
     b->used += (uint32_t)it->len;
+    dtu_count_event(u, KINDS[it->kind], it->cause, it->call);
     if (ends && u->open_calls > 0) u->open_calls--;
 }
 

@@ -178,12 +178,15 @@ static bool next_too_big(dt_udp *u) {
 
 /* Makes the next thing that happened the event. False: nothing did. */
 static bool next_event(dt_udp *u) {
-    return next_too_big(u) || dtu_watch_event(u) || dtu_govern_event(u) || next_report(u) || dtu_objects_event(u) ||
-           (u->core.service ? next_of_service(u) : next_message(u));
+    bool some = next_too_big(u) || dtu_watch_event(u) || dtu_govern_event(u) || next_report(u) ||
+                dtu_objects_event(u) || (u->core.service ? next_of_service(u) : next_message(u));
+    if (some) dtu_count_event(u, u->event.kind, u->event.cause, u->event.call);
+    return some;
 }
 
 static bool next_failure(dt_udp *u) {
     if (u->failed == 0) return false;
+    dtu_count_publish(u);
     u->event.kind = DT_UDP_EVENT_FAILED;
     u->event.cause = u->failed;
     u->event.system_error = u->system_error;

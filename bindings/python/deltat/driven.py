@@ -59,14 +59,18 @@ def _numeric(address: tuple[str, int]) -> tuple[bytes, bytes]:
 class Driven:
     """The driver of a node, for one thread at a time."""
 
-    def __init__(self, node: AnyNode, bind: tuple[str, int]) -> None:
-        """Binds the socket. Raises UdpError if the system refuses it, InvalidArgument or OutOfMemory."""
+    def __init__(
+        self, node: AnyNode, bind: tuple[str, int], counters: str | os.PathLike[str] | None = None
+    ) -> None:
+        """Binds the socket. Raises UdpError if the system refuses it, InvalidArgument, StateError or OutOfMemory."""
         self._waits, self._short = drivers()
         self._node, self._failures, self._ended = node, list[BaseException](), (0, 0)
         host, port = _numeric(bind)
         options, given, error = _c.sized(_c_udp.Options), _c.sized(_c_udp.Driven), _c_udp.Error()
         options.node, options.host, options.port = node.number, host, port
         options.params = ctypes.pointer(params_of(node.params))
+        options.life = getattr(node, "life", 0)
+        options.counters = None if counters is None else os.fsencode(counters)
         setattr(given, node._DRIVEN_AS, node._handle)
         # (the driver has their addresses until it is closed)
         self._kept: list[object] = [self._hooked(given) if is_hooked(node) else self._keeper(given)]

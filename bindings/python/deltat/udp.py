@@ -70,15 +70,19 @@ class Udp:
         bind: tuple[str, int],
         peers: Mapping[int, tuple[str, int]],
         routes: Mapping[int, int] | None = None,
+        *,
+        counters: str | os.PathLike[str] | None = None,
     ) -> None:
         """Binds the socket. `routes` has the number of each neighbour's link; if it is left out, that is the link of
-        the node's route to it, or the node's only link. Raises InvalidArgument if the node has no such link, or an
-        address is none; UdpError, which is an OSError, if the socket can't be bound."""
+        the node's route to it, or the node's only link. `counters`: a file into which the driver counts, for
+        tools/counters.py. Raises InvalidArgument if the node has no such link, an address is none, or the counters
+        file is another one; StateError if it is in use; UdpError, which is an OSError, if the socket can't be
+        bound."""
         self.node = node
         links = {number: self._link_of(number, routes or {}) for number in peers}
         # (before there is a socket from which something could be passed in)
         node._guard_by_default(max(len(peers), 1))
-        self._driven = Driven(node, bind)
+        self._driven = Driven(node, bind, counters)
         try:
             for number, address in peers.items():
                 self._driven.set_neighbour(number, links[number], address)
@@ -323,10 +327,12 @@ class AsyncUdp:
         bind: tuple[str, int],
         peers: Mapping[int, tuple[str, int]],
         routes: Mapping[int, int] | None = None,
+        *,
+        counters: str | os.PathLike[str] | None = None,
     ) -> None:
-        """Binds the socket, and joins the running loop. Raises RuntimeError if no loop runs, and what `Udp` raises."""
+        """Binds the socket, and joins the running loop. `counters`: as of `Udp`. Raises RuntimeError if no loop runs, and what `Udp` raises."""
         self._loop = asyncio.get_running_loop()
-        self.udp = Udp(node, bind, peers, routes)
+        self.udp = Udp(node, bind, peers, routes, counters=counters)
         self._receivers: deque[asyncio.Future[None]] = deque()
         # by the flow's target, and by flow
         self._lines: dict[int, dict[Flow, _Line]] = {}
