@@ -5,10 +5,10 @@
     tools/counters.py --logs /var/log/deltat/pump --listen 9400  the logs of `deltat node`, as they grow
     deltat node < SCRIPT | tools/counters.py --listen 9400       a log from standard input
 
---counters takes a counters file, or a folder, of which each file *.counters is read; it may be given several times. The
-counters continue over restarts of the nodes, and if a file is lost. --logs takes a folder with one log for each start of
-a node, each *.log in the order of their names, and continues with the next one. Without either, the log is standard
-input. --through passes that on to standard output.
+--counters takes a counters file, or a folder, of which each file *.counters is read, those of folders in it too; it may
+be given several times. The counters continue over restarts of the nodes, and if a file is lost. --logs takes a folder
+with one log for each start of a node, each *.log in the order of their names, and continues with the next one; folders
+in it are of further nodes. Without either, the log is standard input. --through passes that on to standard output.
 
 The port is one of 127.0.0.1, and serves any path. --file replaces a file as a whole each time, in Prometheus' format,
 which a node exporter's textfile collector takes. With neither, the counters are written to standard output when the
@@ -157,18 +157,32 @@ def follow(source: BinaryIO, counts: Counts, out: BinaryIO | None) -> None:
     lines.end()
 
 
-def follow_logs(folder: pathlib.Path, counts: Counts) -> None:
-    """Counts the logs of a folder, in the order of their names, and then what is added. Never returns."""
-    done: set[pathlib.Path] = set()
+def follow_logs(top: pathlib.Path, counts: Counts) -> None:
+    """Counts the logs of a folder and of all below it, each by a thread. Never returns."""
+    known: set[pathlib.Path] = set()
+    if not top.is_dir():
+        raise NotADirectoryError(errno.ENOTDIR, "is no folder", str(top))
     while True:
-        left = sorted(it for it in folder.glob("*.log") if it not in done)
-        for path in left:
-            follow_log(path, folder, counts)
-            done.add(path)
+        for folder in sorted({it.parent for it in top.rglob("*.log")} - known):
+            known.add(folder)
+            threading.Thread(target=follow_folder, args=(folder, counts), daemon=True).start()
         time.sleep(LOOK)
 
 
-def follow_log(path: pathlib.Path, folder: pathlib.Path, counts: Counts) -> None:
+def follow_folder(folder: pathlib.Path, counts: Counts) -> None:
+    """Counts the logs of a node, in the order of their names, and then what is added. Never returns."""
+    done = ""
+    while True:
+        for path in sorted(it for it in folder.glob("*.log") if it.name > done):
+            try:
+                follow_log(path, counts)
+            except OSError as why:
+                log.error("%s can't be counted: %s", path, why)
+            done = path.name
+        time.sleep(LOOK)
+
+
+def follow_log(path: pathlib.Path, counts: Counts) -> None:
     """Counts a log, until there is a later one. One that was cut off is read from its beginning."""
     lines = Lines(counts)
     log.info("%s is counted", path)
@@ -182,7 +196,7 @@ def follow_log(path: pathlib.Path, folder: pathlib.Path, counts: Counts) -> None
             if os.fstat(source.fileno()).st_size < source.tell():
                 source.seek(0)
                 continue
-            is_last = any(it.name > path.name for it in folder.glob("*.log"))
+            is_last = any(it.name > path.name for it in path.parent.glob("*.log"))
             if not is_last:
                 time.sleep(LOOK)
 

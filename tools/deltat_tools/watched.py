@@ -87,7 +87,7 @@ class Files:
     def look(self) -> list[Watched]:
         """Reads all of them."""
         for path in self._paths:
-            for it in sorted(path.glob(f"*{ENDING}")) if path.is_dir() else [path]:
+            for it in sorted(path.rglob(f"*{ENDING}")) if path.is_dir() else [path]:
                 self._watched.setdefault(it, Watched(it))
         for each in self._watched.values():
             each.look()
