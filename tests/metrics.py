@@ -171,7 +171,8 @@ def counts(built: Built, folder: pathlib.Path) -> str:
     wants(value(near, "queued_octets") == 600 * 3008, f"{sums}")
     wants(value(near, "sent_octets") == value(near, "queued_octets") and sums["sent_segments"] == 1800, f"{sums}")
     seen = len(relay.first), relay.again
-    wants(seen == (sums["sent_segments"], sums["resent_segments"]) and seen[1] > 20, f"the relay saw {seen}: {sums}")
+    # (the first frame leaves once more behind the proof that the client hears: the driver repeats it, and not the node)
+    wants(seen[0] == sums["sent_segments"] and seen[1] - sums["resent_segments"] in (0, 1) and seen[1] > 20, f"the relay saw {seen}: {sums}")
     wants(sums["acknowledged_octets"] + sums["uncertain_octets"] == sums["queued_octets"] and sums["open_calls"] == 0, f"{sums}")
     it = counted.read(near)
     calls, call_us = it.histogram(1)

@@ -112,15 +112,18 @@ class Lines:
     """Octets of logs, cut into whole lines."""
 
     def __init__(self, counts: Counts) -> None:
-        self._counts, self._rest, self._is_long = counts, b"", False
+        self._counts, self._rest = counts, b""
+        # the line that is begun is too long, and counted as that; or it was left out, and isn't counted yet
+        self._is_long = self._is_left_out = False
 
     def take(self, octets: bytes) -> None:
         """Counts the lines that are whole now."""
-        if self._is_long:
+        if self._is_long or self._is_left_out:
             _, end, octets = octets.partition(b"\n")
             if not end:
                 return
-            self._is_long = False
+            self._counts.skip(int(self._is_left_out))
+            self._is_long = self._is_left_out = False
         whole, end, rest = (self._rest + octets).rpartition(b"\n")
         self._counts.lines(whole + end)
         self._rest = rest
@@ -129,31 +132,30 @@ class Lines:
             self._rest, self._is_long = b"", True
 
     def skip(self, octets: bytes) -> None:
-        """Leaves these out, and counts how many lines they end. The line that is begun is left out too."""
-        self._counts.skip(octets.count(b"\n"))
-        _, _, self._rest = octets.rpartition(b"\n")
-        self._is_long = True
+        """Leaves these out, and the lines of which they are a part, and counts how many lines that are."""
+        self._counts.skip(octets.count(b"\n") - self._is_long * (b"\n" in octets))
+        self._is_left_out = not octets.endswith(b"\n") if b"\n" in octets else not self._is_long
+        self._is_long, self._rest = self._is_long and b"\n" not in octets, b""
 
     def end(self) -> None:
         """The last line has no line feed."""
         if self._rest:
             self._counts.lines(self._rest + b"\n")
-        self._rest, self._is_long = b"", False
+        self._counts.skip(int(self._is_left_out))
+        self._rest, self._is_long, self._is_left_out = b"", False, False
 
 
 def follow(source: BinaryIO, counts: Counts, out: BinaryIO | None) -> None:
-    """Counts the lines of a log until it ends, and passes them on if that is asked for. A pipe that is full is emptied
-    first, since a node waits for whoever reads its log."""
+    """Counts the lines of a log until it ends, and passes them on if that is asked for. Half of a pipe that is full is
+    left out, since a node waits for whoever reads its log: so as much is counted as this machine can."""
     pipe, lines = Pipe(source), Lines(counts)
     while octets := os.read(source.fileno(), BLOCK):
         if out:
             out.write(octets)
             out.flush()
-        if pipe.is_full:
-            octets += os.read(source.fileno(), PIPE) if not out else b""
-            lines.skip(octets)
-        else:
-            lines.take(octets)
+        lines.take(octets)
+        if not out and pipe.is_full:
+            lines.skip(os.read(source.fileno(), PIPE // 2))
     lines.end()
 
 

@@ -27,6 +27,7 @@ enum {
     FLOW_SETS = 1024, /* a power of 2, of WAYS flows each */
     WAYS = 4,
     MOST_CALLS = 65536,
+    PROBES = 8,
     /* a packet in a frame: docs/formats.md */
     MAKER_AT = 8,
     TARGET_AT = 12,
@@ -239,22 +240,28 @@ void dtu_count_reply(dt_udp *u, const struct dt_reply_result *it) {
     if (c && !is_refused(c, it->status, 0)) c->own[COUNT_REPLIES]++;
 }
 
-static struct counted_call *call_at(const struct counting *c, uint64_t number) {
-    return &c->calls[(number ^ number >> 32) & (c->call_places - 1)];
+/* The place of a call, or null. Numbers that are given one after another have places one after another; those of calls
+ * that waited in the driver are a series of their own. */
+static struct counted_call *call_at(const struct counting *c, uint64_t number, bool is_new) {
+    for (size_t i = 0; i < PROBES; i++) {
+        struct counted_call *it = &c->calls[((number ^ number >> 32) + i) & (c->call_places - 1)];
+        if (is_new ? it->us == 0 : it->us && it->number == number) return it;
+    }
+    return NULL;
 }
 
 void dtu_count_call(dt_udp *u, const struct dt_call_result *it) {
     struct counting *c = u->counting;
     if (c == NULL || is_refused(c, it->status, it->quiet_until)) return;
-    struct counted_call *place = call_at(c, it->call);
-    if (place->us) c->own[COUNT_UNMEASURED_CALLS]++;
-    *place = (struct counted_call){.number = it->call, .us = dtu_clock_us()};
+    struct counted_call *place = call_at(c, it->call, true);
+    if (place) *place = (struct counted_call){.number = it->call, .us = dtu_clock_us()};
+    else c->own[COUNT_UNMEASURED_CALLS]++;
     c->own[COUNT_CALLS]++;
 }
 
 static void end_call(struct counting *c, uint64_t number, bool answered) {
-    struct counted_call *place = call_at(c, number);
-    if (place->us == 0 || place->number != number) return;
+    struct counted_call *place = call_at(c, number, false);
+    if (place == NULL) return;
     if (answered) measured(c, HISTOGRAM_CALL, dtu_clock_us() - place->us);
     place->us = 0;
 }

@@ -134,6 +134,8 @@ class Counts:
     def skip(self, lines: int) -> None:
         """Notes that so many lines weren't counted, since the reader was behind. From then on nothing is known of open
         octets."""
+        if not lines:
+            return
         with self._lock:
             self._skipped += lines
             self._values["deltat_open_octets"].clear()

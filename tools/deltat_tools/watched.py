@@ -96,7 +96,7 @@ class Files:
     def families(self) -> Iterator[Family]:
         """The metrics of all files, as they are now."""
         files = self.look()
-        known = [(it, (("node", str(it.last.node)), ("file", it.name))) for it in files if it.last]
+        known: _Known = [(it, (("node", str(it.last.node)), ("file", it.name))) for it in files if it.last]
         yield from _of_files(files, known)
         yield from _states(known)
         made: dict[str, Family] = {}
