@@ -13,7 +13,7 @@ Where a time is over, it says how many were answered till then. Then what the li
 1.2 seconds later, to a server that runs on and to one that was killed and started again in between: how often the
 request is served.
 
-Peers are PEERS below: plain UDP that asks again (what the link can do), TCP, ENet, UDT, QUIC, two nodes, and two nodes
+Peers are PEERS below: plain UDP that asks again (what the link can do), TCP, ENet, CoAP, UDT, QUIC, two nodes, and two nodes
 over the library (`make -C lib`). The
 programs beside this file are built with cc and c++ first. A peer that can't be built here, or a measure that it can't
 do, is `-`. Each measure has its seconds, so all takes at most half an hour; `--part 0.2` gives each a fifth of them.
@@ -116,6 +116,7 @@ PEERS = [
     Peer("TCP", [*C, "tcp.c", "-o", "tcp"], built("tcp")),
     Peer("TCP-FO", [*C, "tcp.c", "-o", "tcp-fast"], built("tcp-fast"), environment=("FAST_OPEN=1",), before=FAST),
     Peer("ENet", [*C, "enet.c", "-o", "enet", "-lenet"], built("enet")),
+    Peer("CoAP", [*C, "coap.c", "-o", "coap", "-lcoap-3-notls"], built("coap")),
     Peer("UDT", [*CXX, "udt.cc", "-o", "udt", "-ludt", "-lpthread"], built("udt")),
     Peer("QUIC", ["sh", "-c", "command -v gtlsclient && test -x /usr/sbin/gtlsserver && command -v openssl"], quic, lacks=("answers",), tells=False),
     Peer("deltat", [], node, lacks=("16 MiB",)),

@@ -99,6 +99,7 @@ struct dt_udp_options {
     uint32_t flags;                 /* enum dt_udp_flag */
     uint32_t max_waiting;           /* octets of calls and replies that wait in the driver while enough is
                                        under way to their peers [16,777,216] */
+    const char *counters;           /* file into which the driver counts, for tools/counters.py [none] */
 };
 
 /* Why dt_udp_open or dt_udp_set_peer failed. */

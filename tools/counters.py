@@ -1,222 +1,50 @@
 #!/usr/bin/env python3
-"""Reads the log of a node from standard input and writes counters in Prometheus' text format:
-`deltat node < SCRIPT | tools/counters.py --file PATH`, or `--listen PORT`, or both.
+"""Counters of nodes for Prometheus, in OpenMetrics: of counters files, of logs, or of both.
 
-The file is replaced as a whole each time, so that a reader never finds a part of it; a node exporter's textfile
-collector can take it. The port is one of 127.0.0.1, and serves any path. With neither, the counters are written to
-standard output when the log ends. `--through` passes the log on to standard output.
+    tools/counters.py --counters /run/deltat --listen 9400       what running drivers count (docs/formats.md)
+    tools/counters.py --logs /var/log/deltat/pump --listen 9400  the logs of `deltat node`, as they grow
+    deltat node < SCRIPT | tools/counters.py --listen 9400       a log from standard input
 
-Counters are by node and flow, by node and link, or by node. Memory is bounded: --flows flows and nodes each have their
-own counters, all others are counted together as "other", and a line that is longer than any of a node is skipped."""
+--counters takes a counters file, or a folder, of which each file *.counters is read, those of folders in it too; it may
+be given several times. The counters continue over restarts of the nodes, and if a file is lost. --logs takes a folder
+with one log for each start of a node, each *.log in the order of their names, and continues with the next one; folders
+in it are of further nodes. Without either, the log is standard input. --through passes that on to standard output.
+
+The port is one of 127.0.0.1, and serves any path. --file replaces a file as a whole each time, in Prometheus' format,
+which a node exporter's textfile collector takes. With neither, the counters are written to standard output when the
+log ends, or, of counters files alone, at once.
+
+Memory is bounded: --flows flows and nodes of logs have counters of their own, all others are counted together as
+"other", and a line that is longer than any of a node is skipped. If a pipe brings more lines than can be counted, the
+rest is skipped and counted as that (deltat_skipped_lines_total).
+
+Statuses: 0 the log ended, or SIGTERM or SIGINT; 1 a file or a port can't be used; 2 the words are wrong."""
 import argparse
 import errno
+import fcntl
+import logging
 import os
-import re
+import pathlib
+import signal
 import sys
 import tempfile
+import termios
 import threading
+import time
+from collections.abc import Callable
 from http.server import BaseHTTPRequestHandler, ThreadingHTTPServer
-from typing import BinaryIO, Iterator, NamedTuple
+from typing import BinaryIO
 
-LONGEST = 200_000  # octets; a line of a node has at most 65,536 octets in hexadecimal
-FLOW = re.compile(r"\d{1,10}:\d{1,5}>\d{1,10}:\d{1,5}")
-NUMBER = re.compile(r"\d{1,20}")
-OTHER = "other"
+from deltat_tools import metrics, told
+from deltat_tools.log_counts import LONGEST, Counts
+from deltat_tools.watched import Files
 
-
-class Family(NamedTuple):
-    """A metric: its name, what its labels are beside the node, and what it counts."""
-    name: str
-    labels: tuple[str, ...]
-    about: str
-    kind: str = "counter"
-
-
-FAMILIES = {it.name: it for it in [
-    Family("deltat_taken_octets_total", ("flow",), "Octets that were taken to be sent"),
-    Family("deltat_refused_sends_total", ("flow", "reason"), "Sends that were refused: quiet or full"),
-    Family("deltat_sent_segments_total", ("flow",), "Segments that went out for the first time"),
-    Family("deltat_sent_octets_total", ("flow",), "Their octets"),
-    Family("deltat_resent_segments_total", ("flow",), "Segments that went out again"),
-    Family("deltat_resent_octets_total", ("flow",), "Their octets"),
-    Family("deltat_rendezvous_total", ("flow",), "Rendezvous packets that went out"),
-    Family("deltat_settled_octets_total", ("flow",), "Octets that were acknowledged"),
-    Family("deltat_uncertain_octets_total", ("flow",), "Octets that were given up: they came or they didn't"),
-    Family("deltat_open_octets", ("flow",), "Octets that were taken and have no fate yet", "gauge"),
-    Family("deltat_window_octets", ("flow",), "The window of the last acknowledgement that was used", "gauge"),
-    Family("deltat_ignored_acknowledgements_total", ("flow",), "Acknowledgements that changed nothing"),
-    Family("deltat_accepted_segments_total", ("flow",), "Segments that were accepted"),
-    Family("deltat_accepted_octets_total", ("flow",), "Their octets"),
-    Family("deltat_accepted_runs_total", ("flow",), "Segments that were accepted with a run mark: a run began, or something was passed over"),
-    Family("deltat_acknowledgements_total", ("flow", "kind"), "Acknowledgements that went out: owed, or replies at once"),
-    Family("deltat_dropped_packets_total", ("flow",), "Packets that were dropped for want of a record"),
-    Family("deltat_closing_packets_total", ("flow",), "Closing packets of peers"),
-    Family("deltat_read_octets_total", ("flow",), "Octets that were read"),
-    Family("deltat_empty_reads_total", ("flow",), "Reads that found nothing"),
-    Family("deltat_released_records_total", ("flow", "record"), "Records that time released: send or receive"),
-    Family("deltat_renewed_records_total", ("flow",), "Send records that began again"),
-    Family("deltat_shelf_total", ("flow", "what"), "Data that came too early: shelved, noshelf, again or stale"),
-    Family("deltat_put_packets_total", ("link",), "Packets that left"),
-    Family("deltat_unsent_packets_total", ("link",), "Packets that the wire didn't take"),
-    Family("deltat_expired_packets_total", ("link", "way"), "Packets without life left: in or out"),
-    Family("deltat_full_link_packets_total", ("link",), "Packets that found a full link"),
-    Family("deltat_noroute_packets_total", (), "Packets without a route"),
-    Family("deltat_bad_datagrams_total", ("fault",), "Datagrams that don't read"),
-    Family("deltat_quiet_packets_total", (), "Packets that met quiet time"),
-    Family("deltat_restarts_total", (), "Restarts"),
-    Family("deltat_life", (), "The life of the node, from its last restart", "gauge"),
-    Family("deltat_moment_milliseconds", (), "The moment of the last line", "gauge"),
-]}
-UNREAD = "deltat_unread_lines_total"
-
-# Lines that are of one flow: how many words they have behind the report, and the counts that they raise:
-# the name, the word that is added (None: one), and the words of further labels.
-RAISES: dict[str, tuple[int, list[tuple[str, int | None, tuple[str, ...]]]]] = {
-    "took": (2, [("deltat_taken_octets_total", 1, ()), ("deltat_open_octets", 1, ())]),
-    "sent": (4, [("deltat_sent_segments_total", None, ()), ("deltat_sent_octets_total", 2, ())]),
-    "resent": (4, [("deltat_resent_segments_total", None, ()), ("deltat_resent_octets_total", 2, ())]),
-    "met": (2, [("deltat_rendezvous_total", None, ())]),
-    "settled": (3, [("deltat_settled_octets_total", 1, ())]),
-    "uncertain": (2, [("deltat_uncertain_octets_total", 1, ())]),
-    "ignored": (3, [("deltat_ignored_acknowledgements_total", None, ())]),
-    "accepted": (4, [("deltat_accepted_segments_total", None, ()), ("deltat_accepted_octets_total", 2, ())]),
-    "acked": (3, [("deltat_acknowledgements_total", None, ("owed",))]),
-    "replied": (3, [("deltat_acknowledgements_total", None, ("reply",))]),
-    "dropped": (2, [("deltat_dropped_packets_total", None, ())]),
-    "closing": (2, [("deltat_closing_packets_total", None, ())]),
-    "nothing": (1, [("deltat_empty_reads_total", None, ())]),
-    "renewed": (1, [("deltat_renewed_records_total", None, ())]),
-    **{it: (2, [("deltat_shelf_total", None, (it,))]) for it in ("shelved", "noshelf", "again", "stale")},
-}
-FAULTS = {"short", "version", "length", "dead", "protocol", "kind", "flags", "window", "size"}
-
-
-class Counts:
-    """The counts of a log, line by line. Its memory is bounded by the count of flows."""
-
-    def __init__(self, flows: int) -> None:
-        self._bound = flows
-        self._flows: set[str] = set()
-        self._nodes: set[str] = set()
-        self._values: dict[str, dict[tuple[str, ...], int]] = {name: {} for name in FAMILIES}
-        self._unread = 0
-        self._lock = threading.Lock()
-
-    def line(self, text: str) -> None:
-        """Counts a line of a log."""
-        words = text.split(" ")
-        with self._lock:
-            if not self._reads(words):
-                self._unread += 1
-
-    def unread(self) -> None:
-        """Counts a line that was too long, or no text."""
-        with self._lock:
-            self._unread += 1
-
-    def _reads(self, words: list[str]) -> bool:
-        """Counts the words of a line. No count is changed where it isn't one."""
-        if words[0] in ("flow", "end", "line"):
-            return len(words) > 1
-        if len(words) > 1 and words[1] == "lost":
-            return len(words) == 3 and NUMBER.fullmatch(words[0]) is not None
-        if len(words) < 3 or not NUMBER.fullmatch(words[0]) or not NUMBER.fullmatch(words[1]):
-            return False
-        node = self._known(words[1], self._nodes)
-        if not (self._of_flow(node, words[2], words[3:]) or self._of_node(node, words[2], words[3:])):
-            return False
-        self._set("deltat_moment_milliseconds", (node,), int(words[0]))
-        return True
-
-    def _of_flow(self, node: str, report: str, words: list[str]) -> bool:
-        if not words or not FLOW.fullmatch(words[0]):
-            return False
-        if report in RAISES:
-            return self._raise_all(node, report, words)
-        if report == "read" and len(words) == 3:
-            self._add("deltat_read_octets_total", (node, self._flow(words[0])), len(words[2]) // 2)
-        elif report == "refused" and len(words) == 3 and words[1] in ("quiet", "full"):
-            self._add("deltat_refused_sends_total", (node, self._flow(words[0]), words[1]))
-        elif report == "released" and len(words) == 2 and words[1] in ("send", "receive"):
-            self._add("deltat_released_records_total", (node, self._flow(words[0]), words[1]))
-        else:
-            return False
-        return True
-
-    def _raise_all(self, node: str, report: str, words: list[str]) -> bool:
-        count, raised = RAISES[report]
-        numbers = {1: 1, 2: 2, 3: 3, 4: 3}[count]
-        if len(words) != count or not all(NUMBER.fullmatch(it) for it in words[1:numbers]):
-            return False
-        flow = self._flow(words[0])
-        for name, place, labels in raised:
-            self._add(name, (node, flow, *labels), 1 if place is None else int(words[place]))
-        if report in ("settled", "uncertain"):
-            self._add("deltat_open_octets", (node, flow), -int(words[1]))
-        if report == "settled":
-            self._set("deltat_window_octets", (node, flow), int(words[2]))
-        if report == "accepted" and words[3] == "run":
-            self._add("deltat_accepted_runs_total", (node, flow))
-        return True
-
-    def _of_node(self, node: str, report: str, words: list[str]) -> bool:
-        numbers = [bool(NUMBER.fullmatch(it)) for it in words]
-        if report == "put" and numbers[:2] == [True, True] and int(words[0]) < 256:
-            self._add("deltat_put_packets_total", (node, words[0]))
-        elif report in ("unsent", "full") and numbers == [True] and int(words[0]) < 256:
-            self._add("deltat_unsent_packets_total" if report == "unsent" else "deltat_full_link_packets_total", (node, words[0]))
-        elif report == "expired" and len(words) == 2 and words[0] in ("in", "out") and numbers[1] and int(words[1]) < 256:
-            self._add("deltat_expired_packets_total", (node, words[1], words[0]))
-        elif report == "noroute" and numbers == [True]:
-            self._add("deltat_noroute_packets_total", (node,))
-        elif report == "quiet" and numbers == [True]:
-            self._add("deltat_quiet_packets_total", (node,))
-        elif report == "restarted" and numbers == [True]:
-            self._restarted(node, int(words[0]))
-        elif report == "bad" and words and words[0] in FAULTS:
-            self._add("deltat_bad_datagrams_total", (node, words[0]))
-        else:
-            return False
-        return True
-
-    def _restarted(self, node: str, life: int) -> None:
-        """What was open gets no report: it is of an earlier life."""
-        self._add("deltat_restarts_total", (node,))
-        self._set("deltat_life", (node,), life)
-        for key in self._values["deltat_open_octets"]:
-            if key[0] == node:
-                self._values["deltat_open_octets"][key] = 0
-
-    def _known(self, word: str, known: set[str]) -> str:
-        if word not in known:
-            if len(known) >= self._bound:
-                return OTHER
-            known.add(word)
-        return word
-
-    def _flow(self, word: str) -> str:
-        return self._known(word, self._flows)
-
-    def _add(self, name: str, labels: tuple[str, ...], count: int = 1) -> None:
-        values = self._values[name]
-        values[labels] = values.get(labels, 0) + count
-
-    def _set(self, name: str, labels: tuple[str, ...], value: int) -> None:
-        self._values[name][labels] = value
-
-    def text(self) -> str:
-        """All counts, in Prometheus' text format."""
-        with self._lock:
-            return "".join(self._lines())
-
-    def _lines(self) -> Iterator[str]:
-        for family in FAMILIES.values():
-            yield f"# HELP {family.name} {family.about}\n# TYPE {family.name} {family.kind}\n"
-            names = ("node", *family.labels)
-            for values, count in sorted(self._values[family.name].items()):
-                labels = ",".join(f'{name}="{value}"' for name, value in zip(names, values))
-                yield f"{family.name}{{{labels}}} {count}\n"
-        yield f"# HELP {UNREAD} Lines that are none of a log\n# TYPE {UNREAD} counter\n{UNREAD} {self._unread}\n"
+log = logging.getLogger("counters")
+Text = Callable[[bool], str]
+"""The metrics: in OpenMetrics (True), or in Prometheus' older format."""
+BLOCK = 1 << 16
+PIPE = 1 << 20
+LOOK = 0.2
 
 
 def write(path: str, text: str) -> None:
@@ -233,95 +61,237 @@ def write(path: str, text: str) -> None:
         raise
 
 
-def serve(port: int, counts: Counts) -> ThreadingHTTPServer:
-    """A server of the counts on a port of 127.0.0.1; port 0 is one that the machine chooses."""
+def serve(port: int, text: Text) -> ThreadingHTTPServer:
+    """A server of the metrics on a port of 127.0.0.1; port 0 is one that the machine chooses."""
+
     class Handler(BaseHTTPRequestHandler):
-        """Answers any path with the counts."""
+        """Answers any path with the metrics, in the format that is asked for."""
+
+        timeout = 10
 
         def do_GET(self) -> None:  # noqa: N802, a name of the library
-            body = counts.text().encode()
+            is_open = metrics.OPENMETRICS in self.headers.get("Accept", "")
+            body = text(is_open).encode()
             self.send_response(200)
-            self.send_header("Content-Type", "text/plain; version=0.0.4; charset=utf-8")
+            self.send_header("Content-Type", metrics.TYPES[is_open])
             self.send_header("Content-Length", str(len(body)))
             self.end_headers()
             self.wfile.write(body)
 
         def log_message(self, format: str, *args: object) -> None:  # noqa: A002
-            """Nothing: standard error is for faults."""
+            """Nothing: the log is for faults."""
 
     server = ThreadingHTTPServer(("127.0.0.1", port), Handler)
     threading.Thread(target=server.serve_forever, daemon=True).start()
     return server
 
 
-def follow(lines: BinaryIO, counts: Counts, out: BinaryIO | None) -> None:
-    """Counts the lines of a log until it ends, and passes them on where that is asked for."""
-    whole = True
-    while line := lines.readline(LONGEST):
+# --- logs
+
+
+class Pipe:
+    """Standard input, if it is a pipe: how much waits in it."""
+
+    def __init__(self, lines: BinaryIO) -> None:
+        self._number, self._size = lines.fileno(), 0
+        try:
+            self._size = fcntl.fcntl(self._number, fcntl.F_SETPIPE_SZ, PIPE)
+        except OSError:
+            pass  # (a file, or a system that allows no larger pipe)
+
+    @property
+    def is_full(self) -> bool:
+        """Whether its writer may have to wait."""
+        if not self._size:
+            return False
+        waits = fcntl.ioctl(self._number, termios.FIONREAD, b"\0\0\0\0")
+        return int.from_bytes(waits, sys.byteorder) > self._size * 3 // 4
+
+
+class Lines:
+    """Octets of logs, cut into whole lines."""
+
+    def __init__(self, counts: Counts) -> None:
+        self._counts, self._rest = counts, b""
+        # the line that is begun is too long, and counted as that; or it was left out, and isn't counted yet
+        self._is_long = self._is_left_out = False
+
+    def take(self, octets: bytes) -> None:
+        """Counts the lines that are whole now."""
+        if self._is_long or self._is_left_out:
+            _, end, octets = octets.partition(b"\n")
+            if not end:
+                return
+            self._counts.skip(int(self._is_left_out))
+            self._is_long = self._is_left_out = False
+        whole, end, rest = (self._rest + octets).rpartition(b"\n")
+        self._counts.lines(whole + end)
+        self._rest = rest
+        if len(rest) >= LONGEST:
+            self._counts.unread()
+            self._rest, self._is_long = b"", True
+
+    def skip(self, octets: bytes) -> None:
+        """Leaves these out, and the lines of which they are a part, and counts how many lines that are."""
+        self._counts.skip(octets.count(b"\n") - self._is_long * (b"\n" in octets))
+        self._is_left_out = not octets.endswith(b"\n") if b"\n" in octets else not self._is_long
+        self._is_long, self._rest = self._is_long and b"\n" not in octets, b""
+
+    def end(self) -> None:
+        """The last line has no line feed."""
+        if self._rest:
+            self._counts.lines(self._rest + b"\n")
+        self._counts.skip(int(self._is_left_out))
+        self._rest, self._is_long, self._is_left_out = b"", False, False
+
+
+def follow(source: BinaryIO, counts: Counts, out: BinaryIO | None) -> None:
+    """Counts the lines of a log until it ends, and passes them on if that is asked for. Half of a pipe that is full is
+    left out, since a node waits for whoever reads its log: so as much is counted as this machine can."""
+    pipe, lines = Pipe(source), Lines(counts)
+    while octets := os.read(source.fileno(), BLOCK):
         if out:
-            out.write(line)
+            out.write(octets)
             out.flush()
-        ends = line.endswith(b"\n")
-        if whole and (ends or len(line) < LONGEST) and line.isascii():
-            if line != b"\n":
-                counts.line(line.decode().rstrip("\n"))
-        elif whole:
-            counts.unread()
-        whole = ends
+        lines.take(octets)
+        if not out and pipe.is_full:
+            lines.skip(os.read(source.fileno(), PIPE // 2))
+    lines.end()
 
 
-def write_again(path: str, counts: Counts, every: float, ended: threading.Event) -> None:
+def follow_logs(top: pathlib.Path, counts: Counts) -> None:
+    """Counts the logs of a folder and of all below it, each by a thread. Never returns."""
+    known: set[pathlib.Path] = set()
+    if not top.is_dir():
+        raise NotADirectoryError(errno.ENOTDIR, "is no folder", str(top))
+    while True:
+        for folder in sorted({it.parent for it in top.rglob("*.log")} - known):
+            known.add(folder)
+            threading.Thread(target=follow_folder, args=(folder, counts), daemon=True).start()
+        time.sleep(LOOK)
+
+
+def follow_folder(folder: pathlib.Path, counts: Counts) -> None:
+    """Counts the logs of a node, in the order of their names, and then what is added. Never returns."""
+    done = ""
+    while True:
+        for path in sorted(it for it in folder.glob("*.log") if it.name > done):
+            try:
+                follow_log(path, counts)
+            except OSError as why:
+                log.error("%s can't be counted: %s", path, why)
+            done = path.name
+        time.sleep(LOOK)
+
+
+def follow_log(path: pathlib.Path, counts: Counts) -> None:
+    """Counts a log, until there is a later one. One that was cut off is read from its beginning."""
+    lines = Lines(counts)
+    log.info("%s is counted", path)
+    with open(path, "rb", buffering=0) as source:
+        is_last = False
+        while True:
+            while octets := source.read(PIPE):
+                lines.take(octets)
+            if is_last:
+                return lines.end()
+            if os.fstat(source.fileno()).st_size < source.tell():
+                source.seek(0)
+                continue
+            is_last = any(it.name > path.name for it in path.parent.glob("*.log"))
+            if not is_last:
+                time.sleep(LOOK)
+
+
+# --- the tool
+
+
+def write_again(path: str, text: Text, every: float, ended: threading.Event) -> None:
     """Replaces the file every so often, and once more when the log has ended."""
     while True:
         last = ended.wait(every)
         try:
-            write(path, counts.text())
+            write(path, text(False))
         except OSError as fault:
-            print(f"counters.py: {path} can't be written: {fault.strerror}; the counters there are old", file=sys.stderr)
+            log.warning("%s can't be written: %s; the counters there are old", path, fault.strerror)
         if last:
             return
 
 
 def arguments() -> argparse.Namespace:
     parser = argparse.ArgumentParser(description=__doc__, formatter_class=argparse.RawDescriptionHelpFormatter)
+    parser.add_argument("--counters", metavar="PATH", type=pathlib.Path, action="append", default=[], help="a counters file, or a folder of them")
+    parser.add_argument("--logs", metavar="FOLDER", type=pathlib.Path, help="the folder of a node's logs")
     parser.add_argument("--file", metavar="PATH", help="replace this file by the counts, again and again")
     parser.add_argument("--every", type=float, default=1.0, metavar="SECONDS", help="how often (default: %(default)s)")
     parser.add_argument("--listen", type=int, metavar="PORT", help="serve the counts on this port of 127.0.0.1; 0: any")
     parser.add_argument("--flows", type=int, default=10_000, metavar="N", help="flows with counts of their own (default: %(default)s)")
     parser.add_argument("--through", action="store_true", help="pass the log on to standard output")
+    parser.add_argument("--level", default="INFO", choices=told.LEVELS, help="which lines of its own log are written")
     given = parser.parse_args()
     if given.every <= 0:
         parser.error(f"--every is {given.every:g}; it must be above 0")
     if given.flows < 1:
         parser.error(f"--flows is {given.flows}; it must be at least 1")
+    if given.through and (given.logs or given.counters):
+        parser.error("--through is for a log from standard input, without --logs and --counters")
     return given
 
 
-def main() -> int:
-    given = arguments()
-    counts, ended, writer = Counts(given.flows), threading.Event(), None
+def count(given: argparse.Namespace, counts: Counts) -> None:
+    """Counts what is asked for, until it ends."""
+    if given.logs:
+        follow_logs(given.logs, counts)
+    elif not given.counters:
+        follow(sys.stdin.buffer, counts, sys.stdout.buffer if given.through else None)
+    elif given.file or given.listen is not None:
+        threading.Event().wait()
+
+
+def run(given: argparse.Namespace, text: Text, counts: Counts) -> None:
+    """Serves the metrics while they are counted."""
+    ended, writer = threading.Event(), None
     try:
         if given.file:
-            write(given.file, counts.text())
-            writer = threading.Thread(target=write_again, args=(given.file, counts, given.every, ended))
+            write(given.file, text(False))
+            writer = threading.Thread(target=write_again, args=(given.file, text, given.every, ended))
             writer.start()
         if given.listen is not None:
-            server = serve(given.listen, counts)
-            print(f"counters.py: the counters are at http://127.0.0.1:{server.server_port}/metrics", file=sys.stderr, flush=True)
-        follow(sys.stdin.buffer, counts, sys.stdout.buffer if given.through else None)
-    except KeyboardInterrupt:
-        pass
-    except (OSError, OverflowError) as fault:
-        is_in_use = isinstance(fault, OSError) and fault.errno == errno.EADDRINUSE
-        text = f"port {given.listen} is in use; stop the other program, or choose another port" if is_in_use else fault
-        print(f"counters.py: {text}", file=sys.stderr)
-        return 1
+            server = serve(given.listen, text)
+            log.info("the counters are at http://127.0.0.1:%d/metrics", server.server_port)
+        count(given, counts)
     finally:
         ended.set()
         if writer:
             writer.join()
+
+
+def stop(*_: object) -> None:
+    raise KeyboardInterrupt
+
+
+def main() -> int:
+    given = arguments()
+    told.begin(given.level)
+    signal.signal(signal.SIGTERM, stop)
+    counts, files = Counts(given.flows), Files(given.counters)
+    has_logs = bool(given.logs or not given.counters)
+
+    def text(is_open: bool) -> str:
+        logs = list(counts.families()) if has_logs else []
+        return metrics.text_of([*logs, *(files.families() if given.counters else ())], is_open)
+
+    try:
+        run(given, text, counts)
+    except KeyboardInterrupt:
+        pass
+    except (OSError, OverflowError) as fault:
+        is_in_use = isinstance(fault, OSError) and fault.errno == errno.EADDRINUSE
+        why = f"port {given.listen} is in use; stop the other program, or choose another port" if is_in_use else fault
+        print(f"counters.py: {why}", file=sys.stderr)
+        return 1
     if not given.file and given.listen is None and not given.through:
-        sys.stdout.write(counts.text())
+        sys.stdout.write(text(False))
     return 0
 
 

@@ -19,11 +19,14 @@ import sqlite3
 import sys
 import threading
 from contextlib import AsyncExitStack, closing
-from typing import Any
+from typing import TYPE_CHECKING, Any
 
-from deltat_tools import live
+from deltat_tools import live, told
 from deltat_tools.gateway import settings
 from deltat_tools.gateway.journal import Journal
+
+if TYPE_CHECKING:
+    from deltat_tools.gateway import front
 
 LINK = 1
 log = logging.getLogger("gateway")
@@ -33,7 +36,7 @@ def words() -> argparse.Namespace:
     it = argparse.ArgumentParser(description=__doc__, formatter_class=argparse.RawDescriptionHelpFormatter)
     it.add_argument("settings", metavar="FILE", help="the settings, in TOML")
     it.add_argument("--check", action="store_true", help="read the settings, and end")
-    it.add_argument("--level", default="INFO", choices=("DEBUG", "INFO", "WARNING", "ERROR"))
+    it.add_argument("--level", default="INFO", choices=told.LEVELS)
     return it.parse_args()
 
 
@@ -51,6 +54,11 @@ def opened(said: settings.Settings, params: Any, charge: int, state: Any) -> Any
     return node
 
 
+async def closed(listens: "front.Front") -> None:
+    """Ends the HTTP server, by a thread, since it waits for the requests that are served."""
+    await asyncio.to_thread(listens.close)
+
+
 async def serve(said: settings.Settings) -> None:
     """Runs the gateway, until it is told to stop."""
     deltat = live.library()
@@ -65,7 +73,7 @@ async def serve(said: settings.Settings) -> None:
         made = Journal(said.state / "gateway.db", orders.SCHEMA + served.SCHEMA, said.sync)
         journal = stack.enter_context(closing(made))
         node = opened(said, params, charge, state)
-        udp = await stack.enter_async_context(deltat.AsyncUdp(node, said.bind, said.peers))
+        udp = await stack.enter_async_context(deltat.AsyncUdp(node, said.bind, said.peers, counters=said.counters))
         calls = deltat.AsyncCalls(udp)
         for port, backend in said.backends.items():
             calls.on(port)(served.Served(journal, backend).serve)
@@ -76,7 +84,7 @@ async def serve(said: settings.Settings) -> None:
             await near.start()
             listens = front.Front(said.listen, said.targets, near)
             threading.Thread(target=listens.run, name="http", daemon=True).start()
-            stack.push_async_callback(asyncio.to_thread, listens.close)
+            stack.push_async_callback(closed, listens)
         log.info("node %d is ready, life %d, silent for %d ms", said.node, node.life, state.silence())
         stopping = asyncio.create_task(stop.wait())
         await asyncio.wait({running, stopping}, return_when=asyncio.FIRST_COMPLETED)
@@ -87,7 +95,7 @@ async def serve(said: settings.Settings) -> None:
 
 def main() -> int:
     asked = words()
-    logging.basicConfig(format="%(asctime)s %(levelname)s %(message)s", level=asked.level)
+    told.begin(asked.level)
     try:
         said = settings.read(asked.settings)
         if not asked.check:

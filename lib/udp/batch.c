@@ -95,6 +95,7 @@ dt_status dt_udp_next_batch(dt_udp *u, int wait_ms, struct dt_udp_batch *b) {
     fill(u, wait_ms < 0 ? DT_NEVER : dtu_clock_ms() + (uint64_t)wait_ms, b);
     dtu_write_all(u);
     dtu_loop_arm(u);
+    dtu_count_publish(u);
     tell_heard(u, b);
     return u->failed ? u->failed : DT_OK;
 }

@@ -83,12 +83,15 @@ struct dt_send_result dt_udp_send(dt_udp *u, const struct dt_flow *flow, const v
     struct peer *peer = dtu_peers_find(&u->peers, flow->target);
     if (dtu_govern_waits(u, peer, flow, len)) {
         u->governing.wants_room = true;
-        return (struct dt_send_result){.status = DT_FULL};
+        struct dt_send_result full = {.status = DT_FULL};
+        dtu_count_send(u, &full);
+        return full;
     }
     struct dt_send_result sent = dtu_core_send(&u->core, at, flow, &payload);
     dtu_judge(u);
     dtu_events_collect(u, at);
     dtu_govern_count(u, peer);
+    dtu_count_send(u, &sent);
     return sent;
 }
 
@@ -154,11 +157,17 @@ struct dt_call_result dt_udp_make_call(dt_udp *u, const struct dt_udp_call_optio
     if (status != DT_OK) return (struct dt_call_result){.status = status};
     struct iovec payload = payload_of(octets, len);
     struct peer *peer = dtu_peers_find(&u->peers, o->flow.target);
-    if (may_wait(u, o, len, at) && dtu_govern_waits(u, peer, &o->flow, len)) return keep(u, peer, o, &payload);
-    struct dt_call_result made = dtu_core_make_call(&u->core, at, o, &payload);
+    struct dt_call_result made;
+    if (may_wait(u, o, len, at) && dtu_govern_waits(u, peer, &o->flow, len)) {
+        made = keep(u, peer, o, &payload);
+        dtu_count_call(u, &made);
+        return made;
+    }
+    made = dtu_core_make_call(&u->core, at, o, &payload);
     if (made.status == DT_OK) u->open_calls++;
     dtu_judge(u);
     dtu_govern_count(u, peer);
+    dtu_count_call(u, &made);
     (void)dtu_events_keep_up(u, at);
     return made;
 }
@@ -175,11 +184,16 @@ struct dt_reply_result dt_udp_reply(dt_udp *u, const struct dt_token *token, con
     if (status != DT_OK) return (struct dt_reply_result){.status = status};
     struct iovec payload = payload_of(octets, len);
     struct peer *peer = dtu_peers_find(&u->peers, token->flow.source);
-    if (len + 8 <= u->options.params->cap && dtu_govern_waits(u, peer, &token->flow, len))
-        return dtu_govern_keep_reply(u, peer, token, &payload);
-    struct dt_reply_result replied = dtu_core_reply(&u->core, at, token, &payload);
+    struct dt_reply_result replied;
+    if (len + 8 <= u->options.params->cap && dtu_govern_waits(u, peer, &token->flow, len)) {
+        replied = dtu_govern_keep_reply(u, peer, token, &payload);
+        dtu_count_reply(u, &replied);
+        return replied;
+    }
+    replied = dtu_core_reply(&u->core, at, token, &payload);
     dtu_judge(u);
     dtu_govern_count(u, peer);
+    dtu_count_reply(u, &replied);
     (void)dtu_events_keep_up(u, at);
     return replied;
 }

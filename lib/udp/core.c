@@ -183,3 +183,30 @@ void dtu_core_totals(struct core *core, uint64_t *queued, uint64_t *settled) {
     *queued = it.octets_queued;
     *settled = it.octets_acknowledged + it.octets_uncertain;
 }
+
+static struct dt_blocked_counts blocked_of(struct core *core) {
+    return core->node ? dt_node_get_blocked_counts(core->node) : dt_service_get_blocked_counts(core->service);
+}
+
+/* Puts what the library counts into the places of a counters file. */
+void dtu_core_counts(struct core *core, uint64_t *all) {
+    struct dt_node_counts it = counts_of(core);
+    struct dt_blocked_counts blocked = blocked_of(core);
+    struct dt_call_counts calls = {.size = sizeof calls};
+    if (core->service) (void)dt_service_get_call_counts(core->service, &calls);
+    all[COUNT_FRAMES_IN] = it.datagrams_in;
+    all[COUNT_FRAMES_REFUSED] = it.datagrams_refused;
+    all[COUNT_FRAMES_OUT] = it.datagrams_out;
+    all[COUNT_OCTETS_QUEUED] = it.octets_queued;
+    all[COUNT_OCTETS_ACKNOWLEDGED] = it.octets_acknowledged;
+    all[COUNT_OCTETS_UNCERTAIN] = it.octets_uncertain;
+    all[COUNT_OCTETS_ACCEPTED] = it.octets_accepted;
+    all[COUNT_OCTETS_READ] = it.octets_read;
+    all[COUNT_BLOCKED_PORT] = blocked.closed_port;
+    all[COUNT_BLOCKED_FLOWS] = blocked.too_many_flows;
+    all[COUNT_LATE_REPLIES] = calls.late_replies;
+    all[COUNT_OLD_REPLIES] = calls.old_replies;
+    all[COUNT_UNKNOWN_REPLIES] = calls.unknown_replies;
+    all[COUNT_REUSED_REQUESTS] = calls.reused_requests;
+    all[COUNT_CUT_MESSAGES] = calls.cut;
+}

@@ -16,7 +16,7 @@ dt_udp *dt_udp_drive(const struct dt_udp_driven *driven, const struct dt_udp_opt
                          "driven.size isn't sizeof(struct dt_udp_driven), or it has no node, or two");
         return NULL;
     }
-    if (options->size == sizeof given) given = *options; /* (else dtu_open refuses it) */
+    if (options->size <= sizeof given) memcpy(&given, options, options->size); /* (else dtu_open refuses it) */
     given.role = driven->service ? DT_UDP_ROLE_SERVICE : DT_UDP_ROLE_NODE;
     given.start_as = DT_UDP_START_FIRST; /* (the program has started it) */
     given.state = NULL;

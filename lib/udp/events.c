@@ -187,14 +187,17 @@ static bool next_of_governor(dt_udp *u) {
  * DT_MAX_PAYLOAD octets. False: nothing happened. */
 bool dtu_events_next(dt_udp *u, uint8_t *room) {
     memset(&u->event, 0, sizeof u->event);
-    return next_too_big(u) || next_of_governor(u) || next_report(u) || dtu_objects_event(u) ||
-           (u->core.service ? next_of_service(u, room) : next_message(u));
+    bool some = next_too_big(u) || next_of_governor(u) || next_report(u) || dtu_objects_event(u) ||
+                (u->core.service ? next_of_service(u, room) : next_message(u));
+    if (some) dtu_count_event(u, u->event.kind, u->event.cause, u->event.call);
+    return some;
 }
 
 static bool next_event(dt_udp *u) { return dtu_watch_event(u) || dtu_events_next(u, u->event_room); }
 
 static bool next_failure(dt_udp *u) {
     if (u->failed == 0) return false;
+    dtu_count_publish(u);
     u->event.kind = DT_UDP_EVENT_FAILED;
     u->event.cause = u->failed;
     u->event.system_error = u->system_error;

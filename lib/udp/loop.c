@@ -84,6 +84,7 @@ static void tick(dt_udp *u, uint64_t us) {
 void dtu_loop_turn(dt_udp *u, int wait_ms) {
     dtu_write_all(u);
     if (wait_ms != 0) {
+        dtu_count_publish(u);
         uint64_t now = dtu_clock_ms(), left = wake_of(u, now) - now;
         if (wait_ms < 0 || left < (uint64_t)wait_ms) wait_ms = left < LONGEST_WAIT_MS ? (int)left : LONGEST_WAIT_MS;
     }
@@ -93,6 +94,7 @@ void dtu_loop_turn(dt_udp *u, int wait_ms) {
     dtu_strangers_greet(u, us / 1000);
     tick(u, us);
     dtu_govern_release(u);
+    dtu_count_publish(u);
 }
 
 dt_status dt_udp_drain(dt_udp *u, int wait_ms) {

@@ -146,8 +146,10 @@ static dt_status open_all(dt_udp *u, const struct dt_udp_options *options, struc
     dtu_clock_was_empty(u, &u->opened);
     u->ahead_ns = u->opened.wall - u->opened.boot;
     u->driven.drained_us = (uint64_t)u->opened.boot / 1000;
+    if ((status = dtu_count_open(u, error)) != DT_OK) return status;
     if (!u->core.driven) status = open_core(u, error);
-    u->options.host = u->options.port = u->options.state = NULL; /* (they are the caller's) */
+    if (status == DT_OK) dtu_count_begin(u);
+    u->options.host = u->options.port = u->options.state = u->options.counters = NULL; /* (they are the caller's) */
     return status;
 }
 
@@ -178,6 +180,7 @@ dt_udp *dt_udp_open(const struct dt_udp_options *options, struct dt_udp_error *e
 void dt_udp_close(dt_udp *u) {
     if (u == NULL) return;
     (void)dtu_is_usable(u);
+    dtu_count_close(u);
     dtu_core_close(&u->core);
     dtu_state_close(u);
     dtu_events_close(u);

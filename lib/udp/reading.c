@@ -102,6 +102,7 @@ bool dtu_pass_in(dt_udp *u, struct peer *peer, const struct arrival *it) {
     bool taken = status == DT_OK;
     if (is_too_old(it)) u->counts.too_old++;
     if (taken) u->heard_at = it->at;
+    dtu_count_in(u, it, status);
     dtu_judge(u);
     dtu_events_collect(u, it->at);
     dtu_govern_count(u, peer);

@@ -18,9 +18,11 @@
  *   objects.c   objects, in chunks over several flows
  *   driven.c    nodes that the program opened: neighbours, hooks, the keeper
  *   batch.c     many events at once
+ *   counters_file.c  counters in a mapped file, for whoever watches the node
  */
 #ifndef DELTAT_UDP_INTERNAL_H
 #define DELTAT_UDP_INTERNAL_H
+#include "counters_file.h"
 #include "deltat_udp.h"
 #include <netinet/in.h>
 #include <sys/socket.h>
@@ -392,6 +394,7 @@ struct dt_udp {
     struct message *spare; /* with room for the longest message: the next one is taken into it */
     struct incoming in;
     struct outgoing out;
+    struct counting *counting; /* null: no counters file */
     uint8_t *event_room; /* what a service's last event points to */
     int socket, epoll, timer, family;
     int read_timeout_ms;  /* SO_RCVTIMEO as it was set last; 0: it isn't */
@@ -443,6 +446,7 @@ dt_status dtu_core_forget(struct core *core, uint64_t now, const struct dt_token
 uint64_t dtu_core_outstanding(struct core *core);
 void dtu_core_totals(struct core *core, uint64_t *queued, uint64_t *settled);
 uint64_t dtu_core_accepted(struct core *core);
+void dtu_core_counts(struct core *core, uint64_t *all);
 bool dtu_core_is_known(void);
 uint64_t dtu_core_quiet_ms(const struct dt_params *params);
 
@@ -601,5 +605,19 @@ void dtu_events_close(dt_udp *u);
 void dtu_events_collect(dt_udp *u, uint64_t at);
 bool dtu_events_next(dt_udp *u, uint8_t *room);
 bool dtu_events_keep_up(dt_udp *u, uint64_t now);
+
+/* --- counters_file.c: without a counters file each does nothing */
+dt_status dtu_count_open(dt_udp *u, struct dt_udp_error *error);
+void dtu_count_begin(dt_udp *u);
+void dtu_count_close(dt_udp *u);
+void dtu_count_publish(dt_udp *u);
+void dtu_count_send(dt_udp *u, const struct dt_send_result *it);
+void dtu_count_call(dt_udp *u, const struct dt_call_result *it);
+void dtu_count_reply(dt_udp *u, const struct dt_reply_result *it);
+void dtu_count_event(dt_udp *u, uint8_t kind, uint8_t cause, uint64_t call);
+void dtu_count_alarm(dt_udp *u, uint8_t cause);
+void dtu_count_age(dt_udp *u, uint64_t us);
+void dtu_count_out(dt_udp *u, const struct iovec *frame);
+void dtu_count_in(dt_udp *u, const struct arrival *a, dt_status status);
 
 #endif

@@ -204,6 +204,7 @@ bool dtu_watch_is_bare(const dt_udp *u, const struct arrival *it) {
 }
 
 static void ring(dt_udp *u, uint32_t node, uint8_t cause) {
+    dtu_count_alarm(u, cause);
     struct watching *w = &u->watching;
     if (w->alarm_count == MAX_ALARMS) return; /* (the counters have them) */
     w->alarms[(w->first_alarm + w->alarm_count++) % MAX_ALARMS] = (struct watch_alarm){node, cause};
@@ -304,6 +305,7 @@ static bool age(dt_udp *u, struct watch *it, struct arrival *a) {
     if (sure == 0) sure = dt_watch_around(it->rules, it->second, a->trailer.made);
     if (sure == 0 || sure > a->came_us) return false;
     uint64_t aged = (a->came_us - sure) / AGED_UNIT_US;
+    dtu_count_age(u, a->came_us - sure);
     it->aged = aged < TRAILER_NOT_AGED ? (uint16_t)aged : TRAILER_NOT_AGED - 1;
     a->waited_ms = dt_watch_waited_ms(dt_watch_age(it->rules, it->second, a->at_us, sure), a->charge);
     return true;

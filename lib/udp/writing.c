@@ -112,6 +112,7 @@ static bool gather(dt_udp *u, unsigned *parts) {
             continue;
         }
         (*parts)++;
+        dtu_count_out(u, part);
         dtu_watch_stamp(u, peer, part);
         add(u, peer, part);
     }

@@ -7,7 +7,7 @@
  *   ends say LOOP KEY=VALUE..         sends `count` messages, one after another's echo, and drains; `echoed N wrong N`
  *
  * LOOP is next (dt_udp_next_event waits), poll, epoll, or glib (compiled with -DWITH_GLIB). Keys: host port node life
- * again peer peer_host peer_port learns state count octets many flags seg r timeout pause (ms after each call) log (a
+ * again peer peer_host peer_port learns state counters count octets many flags seg r timeout pause (ms after each call) log (a
  * file to which the number of each request that is served is appended). */
 #include "deltat_udp.h"
 #include <errno.h>
@@ -286,7 +286,8 @@ static dt_udp *opened(struct end *it) {
                                              : DT_UDP_START_FIRST,
         .life = number(it, "life", 1),
         .flags = number(it, "flags", 0),
-        .max_peers = number(it, "learns", 0)};
+        .max_peers = number(it, "learns", 0),
+        .counters = word(it, "counters", NULL)};
     bool calls = strcmp(it->mode, "ask") == 0 || strcmp(it->mode, "serve") == 0;
     options.role = calls ? DT_UDP_ROLE_SERVICE : DT_UDP_ROLE_NODE;
     struct dt_udp_error error;

@@ -92,6 +92,7 @@ class Options(ctypes.Structure):
         ("report_kinds", ctypes.c_uint32),
         ("flags", ctypes.c_uint32),
         ("max_waiting", ctypes.c_uint32),
+        ("counters", ctypes.c_char_p),
     ]
 
 

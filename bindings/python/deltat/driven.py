@@ -269,14 +269,18 @@ class Driver:
 class Driven(Driver):
     """The driver of a node that the program opened."""
 
-    def __init__(self, node: AnyNode, bind: tuple[str, int], watch: bool) -> None:
-        """Binds the socket. Raises UdpError if the system refuses it, InvalidArgument or OutOfMemory."""
+    def __init__(
+        self, node: AnyNode, bind: tuple[str, int], watch: bool, counters: str | os.PathLike[str] | None = None
+    ) -> None:
+        """Binds the socket. Raises UdpError if the system refuses it, InvalidArgument, StateError or OutOfMemory."""
         self._node, failures = node, list[BaseException]()
         host, port = _numeric(bind)
         options, given, error = _c.sized(_c_udp.Options), _c.sized(_c_udp.Driven), _c_udp.Error()
         options.node, options.host, options.port = node.number, host, port
         options.params = ctypes.pointer(params_of(node.params))
         options.flags = 0 if watch else _c_udp.Flag.WITHOUT_WATCH
+        options.life = getattr(node, "life", 0)
+        options.counters = None if counters is None else os.fsencode(counters)
         links = (_c.Link * max(len(node.links), 1))(*(_c.Link(it.charge, it.pace, it.number) for it in node.links))
         given.links, given.link_count = links, len(node.links)
         setattr(given, node._DRIVEN_AS, node._handle)

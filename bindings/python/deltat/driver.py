@@ -69,13 +69,14 @@ class Udp(AnyUdp):
         max_peers: int = 0,
         pace: int = 0,
         flags: int = 0,
+        counters: str | os.PathLike[str] | None = None,
     ) -> None:
         """Binds the socket: without `host` to every address of IPv6 and IPv4, without `port` to a free port. Either
         `state`, a folder, or `start` says how the node starts. `max_peers`: how many peers may be learnt at one time.
-        `flags`: enum dt_udp_flag.
+        `flags`: enum dt_udp_flag. `counters`: a file into which the driver counts, for tools/counters.py.
 
-        Raises UdpError if the system refuses it; StateError if the state folder is in use; InvalidArgument;
-        OutOfMemory; TypeError without a start, or with two."""
+        Raises UdpError if the system refuses it; StateError if the state folder or the counters file is in use;
+        InvalidArgument; OutOfMemory; TypeError without a start, or with two."""
         if (start is None) == (state is None):
             raise TypeError(f"node {node}: pass `state`, or `start`: Start.AGAIN unless the number is new")
         options = _c.sized(_c_udp.Options)
@@ -86,6 +87,7 @@ class Udp(AnyUdp):
         options.role, options.start_as = _c_udp.Role.SERVICE if service else _c_udp.Role.NODE, start or 0
         options.state = None if state is None else os.fsencode(state)
         options.max_peers, options.flags = in_range(max_peers, 32, "max_peers"), in_range(flags, 32, "flags")
+        options.counters = None if counters is None else os.fsencode(counters)
         self.node, self.params, error = node, params, _c_udp.Error()
         handle: int | None = drivers().waits.dt_udp_open(options, error)
         if not handle:

@@ -255,15 +255,18 @@ class Udp(AnyUdp):
         routes: Mapping[int, int] | None = None,
         *,
         watch: bool = True,
+        counters: str | os.PathLike[str] | None = None,
     ) -> None:
         """Binds the socket. `routes` has the number of each neighbour's link; if it is left out, that is the link of
-        the node's route to it, or the node's only link. Raises InvalidArgument if the node has no such link, or an
-        address is none; UdpError, which is an OSError, if the socket can't be bound."""
+        the node's route to it, or the node's only link. `counters`: a file into which the driver counts, for
+        tools/counters.py. Raises InvalidArgument if the node has no such link, an address is none, or the counters
+        file is another one; StateError if it is in use; UdpError, which is an OSError, if the socket can't be
+        bound."""
         self.node = node
         links = {number: self._link_of(number, routes or {}) for number in peers}
         # (before there is a socket from which something could be passed in)
         node._guard_by_default(max(len(peers), 1))
-        driven = Driven(node, bind, watch)
+        driven = Driven(node, bind, watch, counters)
         try:
             for number, address in peers.items():
                 driven.set_neighbour(number, links[number], address)
@@ -521,10 +524,12 @@ class AsyncUdp(AnyAsyncUdp):
         routes: Mapping[int, int] | None = None,
         *,
         watch: bool = True,
+        counters: str | os.PathLike[str] | None = None,
     ) -> None:
-        """Binds the socket, and joins the running loop. Raises RuntimeError if no loop runs, and what `Udp` raises."""
+        """Binds the socket, and joins the running loop. `counters`: as of `Udp`. Raises RuntimeError if no loop runs,
+        and what `Udp` raises."""
         asyncio.get_running_loop()
-        super().__init__(Udp(node, bind, peers, routes, watch=watch))
+        super().__init__(Udp(node, bind, peers, routes, watch=watch, counters=counters))
 
     async def __aenter__(self) -> Self:
         return self

@@ -54,6 +54,7 @@ class Settings:
     backends: Mapping[int, Backend] = field(default_factory=dict)
     sync: bool = True
     keep_hours: float = 24.0
+    counters: Path | None = None
 
 
 class _Table:
@@ -174,6 +175,7 @@ def read(path: str) -> Settings:
         {it.port: it for it in (_backend(port, value) for port, value in serves.items())},
         bool(it.take("sync", bool, True)),
         float(it.take("keep_hours", (int, float), 24.0)),
+        Path(counters) if (counters := str(it.take("counters", str, ""))) else None,
     )
     it.end()
     _check(made)
