@@ -92,7 +92,7 @@ def layout(built: Built, folder: pathlib.Path) -> str:
     include = ["-I", str(TOP / "include"), "-I", str(TOP / "lib" / "udp")]
     subprocess.run([COMPILER, "-std=c11", *include, str(source), "-o", str(program)], check=True)
     said = [int(it) for it in subprocess.run([program], capture_output=True, text=True, check=True).stdout.split()]
-    mine = [len(counted.COUNTERS), 40, len(counted.GAUGES), len(counted.HISTOGRAMS), len(counted.BOUNDS_US),
+    mine = [len(counted.COUNTERS), 41, len(counted.GAUGES), len(counted.HISTOGRAMS), len(counted.BOUNDS_US),
             counted.FIRST_GAUGE, counted.WORDS]
     wants(said == mine, f"the header has {said}, the reader {mine}")
     page = (TOP / "docs" / "formats.md").read_text()
@@ -105,7 +105,7 @@ def layout(built: Built, folder: pathlib.Path) -> str:
     header = (TOP / "include" / "deltat_udp.h").read_text()
     struct_ = header[header.index("struct dt_udp_counts {"):].split("};")[0]
     names = re.findall(r"\b(\w+)[,;]", re.sub(r"/\*.*?\*/", "", struct_, flags=re.DOTALL))
-    wants(len(names) == 25 and names.index("too_old") == 16 and counted.COUNTERS[16].labels == (("cause", "too_old"),), "the order")
+    wants(len(names) == 26 and names.index("too_old") == 16 and counted.COUNTERS[16].labels == (("cause", "too_old"),), "the order")
     return f"{len(own)} numbers and {len(counted.HISTOGRAMS)} histograms"
 
 
@@ -342,8 +342,8 @@ def python(built: Built, folder: pathlib.Path) -> str:
 
     params, charge = deltat.Params.for_network(deltat.Network(delay_us=2_000, round_trip_us=1_000, wait_ms=50))
     own, driven = folder / "own.counters", folder / "driven.counters"
-    with driver.Udp(2, params, charge, HOST, start=deltat.Start.FIRST, service=True, counters=own,
-                    flags=32) as udp, contextlib.ExitStack() as ending:
+    with driver.Udp(2, params, charge, HOST, start=deltat.Start.FIRST, service=True, counters=own
+                    ) as udp, contextlib.ExitStack() as ending:
         udp.open_port(20, deltat.PortKind.SERVICE)
         calls_ = driver.Calls(udp)
         calls_.on(20)(lambda request: request.payload[::-1])

@@ -28,7 +28,7 @@ enum {
 
 /* Places from FIRST_COUNTER on. The first ones are those of struct dt_udp_counts, in its order. */
 enum count {
-    COUNT_OF_DRIVER = 25,
+    COUNT_OF_DRIVER = 26,
     COUNT_FRAMES_IN = COUNT_OF_DRIVER,
     COUNT_FRAMES_REFUSED,
     COUNT_FRAMES_OUT,

@@ -53,6 +53,7 @@ COUNTERS: tuple[Name, ...] = (
     *_cause("dropped_datagrams", _REFUSED_IN, "cause", "other_parameters", "clock", "former_opening", "early_opening"),
     Name("proved_openings", "Openings of peers that were found to be the present ones"),
     *_cause("pings", "Questions how old a datagram is", "way", "in", "out"),
+    Name("dropped_datagrams", _REFUSED_IN, (("cause", "with_trailer"),)),
     Name("frames_in", "Frames that the node handled"),
     Name("refused_frames", "Frames that the node refused"),
     Name("frames_out", "Frames that the node made"),

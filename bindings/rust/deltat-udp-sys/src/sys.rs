@@ -76,6 +76,9 @@ pub const DT_UDP_EVENT_ROOM: u8 = 12;
 pub const DT_UDP_ALARM_CLOCK: u8 = 1;
 /// the peer has other parameters
 pub const DT_UDP_ALARM_PARAMETERS: u8 = 2;
+/// this end has a watch and the peer hasn't, or the other way round: once for each peer. Open both with a watch, or
+/// both with DT_UDP_FLAG_WITHOUT_WATCH
+pub const DT_UDP_ALARM_WATCH: u8 = 3;
 
 /// A handle. Its octets are the library's.
 #[repr(C)]
@@ -133,6 +136,8 @@ pub struct dt_udp_options {
     pub flags: u32,
     /// octets of calls and replies that wait in the driver while enough is under way to their peers \[16,777,216\]
     pub max_waiting: u32,
+    /// file into which the driver counts, for tools/counters.py \[none\]
+    pub counters: *const c_char,
 }
 
 impl dt_udp_options {
@@ -161,6 +166,7 @@ impl dt_udp_options {
             report_kinds: 0,
             flags: 0,
             max_waiting: 0,
+            counters: core::ptr::null(),
         }
     }
 }
@@ -224,6 +230,8 @@ pub struct dt_udp_event {
     pub gap: bool,
     /// of DT_UDP_EVENT_REPORT, else null
     pub report: *const dt_report,
+    /// of ANSWERED and UNSURE: what the call was given by dt_udp_make_call, else 0
+    pub user: u64,
 }
 
 impl dt_udp_event {
@@ -242,6 +250,7 @@ impl dt_udp_event {
             cause: 0,
             gap: false,
             report: core::ptr::null(),
+            user: 0,
         }
     }
 }
@@ -306,6 +315,8 @@ pub struct dt_udp_counts {
     pub pings_in: u64,
     /// questions how old a datagram is
     pub pings_out: u64,
+    /// dropped: the sender has a watch, and this end has none
+    pub with_trailer: u64,
 }
 
 impl dt_udp_counts {
@@ -337,11 +348,44 @@ impl dt_udp_counts {
             openings_proved: 0,
             pings_in: 0,
             pings_out: 0,
+            with_trailer: 0,
         }
     }
 }
 
 impl Default for dt_udp_counts {
+    fn default() -> Self {
+        Self::new()
+    }
+}
+
+/// Of a call. Zero the struct, and set `size` and what you need.
+#[repr(C)]
+#[derive(Clone, Copy, Debug, PartialEq, Eq, Hash)]
+pub struct dt_udp_call_options {
+    /// sizeof(struct dt_udp_call_options)
+    pub size: u32,
+    /// at least 1
+    pub timeout_ms: u32,
+    /// from a caller's port of this node
+    pub flow: dt_flow,
+    /// the event of its end has it: a pointer, an index, or 0
+    pub user: u64,
+}
+
+impl dt_udp_call_options {
+    /// All fields 0, and `size` as it has to be.
+    pub const fn new() -> Self {
+        Self {
+            size: core::mem::size_of::<Self>() as u32,
+            timeout_ms: 0,
+            flow: dt_flow::new(),
+            user: 0,
+        }
+    }
+}
+
+impl Default for dt_udp_call_options {
     fn default() -> Self {
         Self::new()
     }
@@ -482,6 +526,9 @@ pub struct dt_udp_driven {
     pub service: *mut dt_service,
     /// \[none: the program has no state folder\]
     pub keeper: *mut dt_udp_keeper,
+    /// with the watch: those of the node, with their charges
+    pub links: *const dt_link,
+    pub link_count: usize,
     /// \[none: the functions of deltat.h\]
     pub hooks: *const dt_udp_hooks,
 }
@@ -494,6 +541,8 @@ impl dt_udp_driven {
             node: core::ptr::null_mut(),
             service: core::ptr::null_mut(),
             keeper: core::ptr::null_mut(),
+            links: core::ptr::null(),
+            link_count: 0,
             hooks: core::ptr::null(),
         }
     }
@@ -511,16 +560,18 @@ impl Default for dt_udp_driven {
 pub struct dt_udp_item {
     /// of an end, or of the request's token
     pub call: u64,
-    /// where its octets are in the room, and how many
+    /// where its octets are in the room, and how many; of TOO_BIG: of the datagram
     pub at: u32,
-    /// where its octets are in the room, and how many
+    /// where its octets are in the room, and how many; of TOO_BIG: of the datagram
     pub len: u32,
-    /// of a request, or of REPLY_UNCERTAIN
+    /// of a request, or of REPLY_UNCERTAIN; of TOO_BIG its target is the peer
     pub flow: dt_flow,
-    /// enum dt_udp_event_kind: REQUEST, ANSWERED, UNSURE or REPLY_UNCERTAIN
+    /// enum dt_udp_event_kind
     pub kind: u8,
     /// of UNSURE: enum dt_cause
     pub cause: u8,
+    /// of an end: what dt_udp_make_call was given
+    pub user: u64,
 }
 
 impl dt_udp_item {
@@ -533,11 +584,40 @@ impl dt_udp_item {
             flow: dt_flow::new(),
             kind: 0,
             cause: 0,
+            user: 0,
         }
     }
 }
 
 impl Default for dt_udp_item {
+    fn default() -> Self {
+        Self::new()
+    }
+}
+
+/// A call of a batch. Its octets are behind those of the call before.
+#[repr(C)]
+#[derive(Clone, Copy, Debug, PartialEq, Eq, Hash)]
+pub struct dt_udp_batch_call {
+    pub flow: dt_flow,
+    pub timeout_ms: u32,
+    pub len: u32,
+    pub user: u64,
+}
+
+impl dt_udp_batch_call {
+    /// All fields 0.
+    pub const fn new() -> Self {
+        Self {
+            flow: dt_flow::new(),
+            timeout_ms: 0,
+            len: 0,
+            user: 0,
+        }
+    }
+}
+
+impl Default for dt_udp_batch_call {
     fn default() -> Self {
         Self::new()
     }
@@ -563,6 +643,18 @@ pub struct dt_udp_batch {
     pub heard_count: u32,
     /// set: the guard of a driven node dropped a datagram
     pub blocked: bool,
+    /// set: enum dt_udp_alarm of the node `alarm_peer`, or 0; each batch has one at most
+    pub alarm: u8,
+    pub alarm_peer: u32,
+    /// \[null\] `call_count` calls to make first, as by dt_udp_make_call
+    pub calls: *const dt_udp_batch_call,
+    pub payloads: *const u8,
+    /// set: how many of them were made. If one wasn't, those after it aren't tried,
+    pub call_count: u32,
+    /// set: how many of them were made. If one wasn't, those after it aren't tried,
+    pub calls_made: u32,
+    /// set: this says why, and nothing is waited for
+    pub refused: dt_call_result,
 }
 
 impl dt_udp_batch {
@@ -578,6 +670,13 @@ impl dt_udp_batch {
             heard: core::ptr::null_mut(),
             heard_count: 0,
             blocked: false,
+            alarm: 0,
+            alarm_peer: 0,
+            calls: core::ptr::null(),
+            payloads: core::ptr::null(),
+            call_count: 0,
+            calls_made: 0,
+            refused: dt_call_result::new(),
         }
     }
 }
@@ -589,6 +688,16 @@ impl Default for dt_udp_batch {
 }
 
 extern "C" {
+    /// Computes the parameters for a network whose nodes have drivers with a watch, and the charge of its links: as
+    /// dt_params_for, of links whose MTU is less by the trailer and whose longest delay is longer by two round
+    /// trips. So long may the age of a datagram be above the time that it was under way (docs/watch.md). Returns
+    /// what dt_params_for does.
+    pub fn dt_udp_params_for(
+        network: *const dt_network,
+        params: *mut dt_params,
+        charge: *mut u32,
+    ) -> dt_status;
+
     /// Returns the interface version of the library. Compare it with DT_UDP_ABI_VERSION first.
     pub fn dt_udp_abi_version() -> u32;
 
@@ -661,6 +770,17 @@ extern "C" {
         octets: *const c_void,
         len: usize,
         timeout_ms: u32,
+    ) -> dt_call_result;
+
+    /// Makes a call as dt_udp_call does, with a value of the caller's that its end has: so the caller needs no
+    /// table of calls by their numbers.
+    ///
+    /// - `DT_INVALID`: also: options.size isn't that of the struct
+    pub fn dt_udp_make_call(
+        udp: *mut dt_udp,
+        options: *const dt_udp_call_options,
+        octets: *const c_void,
+        len: usize,
     ) -> dt_call_result;
 
     /// Replies to a request, once; of a service. `octets` may be those of the event. As dt_service_reply. A reply
@@ -746,8 +866,11 @@ extern "C" {
 
     pub fn dt_udp_service(udp: *mut dt_udp) -> *mut dt_service;
 
-    /// As dt_udp_open, with a node of the program. Of `options` size, node, host, port, params and flags count; the
-    /// guard, the ports and the routes are the program's.
+    /// As dt_udp_open, with a node of the program, before the first call of that. Of `options` size, node, host,
+    /// port, params and flags count; the guard, the ports and the routes are the program's. Without
+    /// DT_UDP_FLAG_WITHOUT_WATCH each neighbour needs a driver with a watch; then the program calls
+    /// dt_udp_flush_since after each call of the node, since what leaves otherwise counts as made when the driver
+    /// was last called. Nothing limits what is under way.
     pub fn dt_udp_drive(
         driven: *const dt_udp_driven,
         options: *const dt_udp_options,
@@ -765,10 +888,10 @@ extern "C" {
         error: *mut dt_udp_error,
     ) -> dt_status;
 
-    /// Returns events of a service as dt_udp_next_event does, many at once: waits at most `wait_ms` ms for the
-    /// first one, sends and receives what is due, and puts what was made meanwhile on the wire. Of a driven node,
-    /// and with `max_items` 0 of a driven service, it takes no events, and returns when something arrived or was
-    /// due.
+    /// Returns events of a service as dt_udp_next_event does, many at once: makes calls, waits at most `wait_ms` ms
+    /// for the first event, sends and receives what is due, and puts what was made meanwhile on the wire. Of a
+    /// driven node, and with `max_items` 0, it takes no events, and returns when something arrived or was due.
+    /// Alarms aren't among the items.
     ///
     /// - `DT_OK`: `count` events, 0 if there was none in `wait_ms`, or a signal came
     /// - `DT_INVALID`: of a node that isn't driven
