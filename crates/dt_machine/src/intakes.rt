@@ -1,8 +1,9 @@
 //! How datagrams come out of a socket: each has waited at most 20 ms.
-ghost use Rattle.std.specs.Prelude.{ℕ, ◌≡◌, ◌≤◌, ◌<◌, All, Any, IfOk, IfSome, false, length};
+ghost use Rattle.std.specs.Prelude.{ℕ, ◌≡◌, ◌≤◌, ◌<◌, [], All, Any, IfOk, IfSome, None, Some, cond, false, length};
 ghost use Rattle.dt_machine.specs.Backlogs.{nothing};
 ghost use Rattle.dt_machine.specs.Hastes.{first_haste};
-ghost use Rattle.dt_machine.specs.Looks.{IsLook};
+ghost use Rattle.dt_machine.specs.Intakes.{FirstIsFresh, FirstIsLate, NextIsFresh};
+ghost use Rattle.dt_machine.specs.Looks.{IsLook, is_empty_look};
 ghost use Rattle.dt_machine.specs.Waits.{may_have_waited};
 
 use crate::backlogs::Backlog;
@@ -47,6 +48,16 @@ pub struct WaitSpan {
     until: u64,
 }
 
+/// A datagram that is handed over.
+#[derive(Clone, Copy)]
+pub struct Found {
+    /// When it is handed over, in nanoseconds.
+    pub moment: u64,
+    pub link: u16,
+    /// How many of its octets are the first in the buffer.
+    pub count: usize,
+}
+
 /// What is known of the datagrams of a socket.
 #[derive(Drop)]
 pub struct Intake {
@@ -89,32 +100,39 @@ impl Intake {
 
     /// Hands over the first datagram of the backlog, with the moment `now`, or drops it where it may have
     /// waited longer than 20 ms by then. None where none waits.
-    fn first(&mut self, now: u64, buf: &mut [u8]) -> Option<Option<(u64, u16, usize)>>
-        ensures link { IfSome result (λ r. IfSome r (λ d. d.1 ≤ 255)) }
-        ensures within { IfSome result (λ r. IfSome r (λ d. d.2 ≤ length buf.old)) }
+    fn first(&mut self, now: u64, buf: &mut [u8]) -> Option<Option<Found>>
+        ensures link { IfSome result (λ r. IfSome r (λ d. d.link ≤ 255)) }
+        ensures within { IfSome result (λ r. IfSome r (λ d. d.count ≤ length buf.old)) }
         ensures same_room { length buf.new ≡ length buf.old }
-        ensures moment { IfSome result (λ r. IfSome r (λ d. d.0 ≡ now)) }
-        ensures fresh { IfSome result (λ r. IfSome r (λ d. Any (λ w. (w.link ≡ d.1) × (may_have_waited w.empty now ≡ false)) self.old.backlog.waiting)) }
+        ensures moment { IfSome result (λ r. IfSome r (λ d. d.moment ≡ now)) }
+        ensures fresh { IfSome result (λ r. IfSome r (FirstIsFresh now (length buf.old) buf.new self.old.backlog.waiting self.new.backlog.waiting)) }
+        ensures late { result ≡ Some None → FirstIsLate now self.old.backlog.waiting self.new.backlog.waiting }
+        ensures none { result ≡ None → self.old.backlog.waiting ≡ [] }
+        ensures same { (self.new.empty ≡ self.old.empty) × (self.new.haste ≡ self.old.haste) }
     {
         let arrival = self.backlog.next(buf)?;
         if may_have_waited(arrival.empty, now) {
             return Some(None);
         }
-        Some(Some((now, arrival.link, arrival.count)))
+        Some(Some(Found {
+            moment: now,
+            link: arrival.link,
+            count: arrival.count,
+        }))
     }
 
     /// The first datagram of the backlog that can't have waited longer than 20 ms by the moment `now`.
     /// Those before it are dropped. With it goes that moment.
-    fn fresh(&mut self, now: u64, buf: &mut [u8]) -> Option<(u64, u16, usize)>
-        ensures link { IfSome result (λ d. d.1 ≤ 255) }
-        ensures within { IfSome result (λ d. d.2 ≤ length buf.old) }
+    fn fresh(&mut self, now: u64, buf: &mut [u8]) -> Option<Found>
+        ensures link { IfSome result (λ d. d.link ≤ 255) }
+        ensures within { IfSome result (λ d. d.count ≤ length buf.old) }
         ensures same_room { length buf.new ≡ length buf.old }
-        ensures moment { IfSome result (λ d. d.0 ≡ now) }
+        ensures fresh { IfSome result (NextIsFresh now (length buf.old) buf.new self.old.backlog.waiting self.new.backlog.waiting) }
+        ensures same { (self.new.empty ≡ self.old.empty) × (self.new.haste ≡ self.old.haste) }
     {
         for _ in 0..MOST_PASSED {
-            let first = self.first(now, buf)?;
-            if first.is_some() {
-                return first;
+            if let Some(found) = self.first(now, buf)? {
+                return Some(found);
             }
         }
         None
@@ -138,7 +156,9 @@ impl Intake {
             if !self.backlog.has_room(buf.len()) {
                 break;
             }
-            match socket.look(buf) {
+            let look = socket.look(buf);
+            self.note_look(look, now);
+            match look {
                 Look::Datagram { from, count } => {
                     if let Some(link) = link_of(peers, from) {
                         self.backlog.keep(link, &buf[..count], self.empty);
@@ -146,11 +166,8 @@ impl Intake {
                         is_one = true;
                     }
                 }
-                Look::Other => (),
-                Look::Empty => {
-                    self.empty = now;
-                    break;
-                }
+                Look::Other | Look::Failed => (),
+                Look::Empty => break,
             }
         }
     }
@@ -162,10 +179,10 @@ impl Intake {
         peers: &[Peer],
         now: u64,
         buf: &mut [u8],
-    ) -> Option<(u64, u16, usize)>
+    ) -> Option<Found>
         requires { All (λ p. p.link ≤ 255) peers.now }
-        ensures link { IfSome result (λ d. d.1 ≤ 255) }
-        ensures within { IfSome result (λ d. d.2 ≤ length buf.old) }
+        ensures link { IfSome result (λ d. d.link ≤ 255) }
+        ensures within { IfSome result (λ d. d.count ≤ length buf.old) }
         ensures same_room { length buf.new ≡ length buf.old }
     {
         if let Some(found) = self.fresh(now, buf) {
@@ -180,13 +197,13 @@ impl Intake {
 
     /// The datagram that a look found, if it did, by the moment `now`. None where it is a stranger's, or
     /// may have waited longer than 20 ms.
-    fn judged(&mut self, look: Look, now: u64, peers: &[Peer]) -> Option<(u64, u16, usize)>
+    fn judged(&mut self, look: Look, now: u64, peers: &[Peer]) -> Option<Found>
         requires { All (λ p. p.link ≤ 255) peers.now }
-        ensures link { IfSome result (λ d. d.1 ≤ 255) }
-        ensures within { (room : ℕ) → IsLook room look → IfSome result (λ d. d.2 ≤ room) }
-        ensures moment { IfSome result (λ d. d.0 ≡ now) }
+        ensures link { IfSome result (λ d. d.link ≤ 255) }
+        ensures within { (room : ℕ) → IsLook room look → IfSome result (λ d. d.count ≤ room) }
+        ensures moment { IfSome result (λ d. d.moment ≡ now) }
         ensures fresh { IfSome result (λ d. may_have_waited self.old.empty now ≡ false) }
-        ensures peer { IfSome result (λ d. Any (λ p. p.link ≡ d.1) peers.now) }
+        ensures peer { IfSome result (λ d. Any (λ p. p.link ≡ d.link) peers.now) }
     {
         let Look::Datagram { from, count } = look else {
             return None;
@@ -196,7 +213,11 @@ impl Intake {
             return None;
         }
         let link = link_of(peers, from)?;
-        Some((now, link, count))
+        Some(Found {
+            moment: now,
+            link,
+            count,
+        })
     }
 
     /// Whether a take may sleep at first: the last datagram came soon, so that one is likely to end the
@@ -212,10 +233,10 @@ impl Intake {
         peers: &[Peer],
         span: WaitSpan,
         buf: &mut [u8],
-    ) -> io::Result<Option<(u64, u16, usize)>>
+    ) -> io::Result<Option<Found>>
         requires { All (λ p. p.link ≤ 255) peers.now }
-        ensures link { IfOk result (λ t. IfSome t (λ d. d.1 ≤ 255)) }
-        ensures within { IfOk result (λ t. IfSome t (λ d. d.2 ≤ length buf.old)) }
+        ensures link { IfOk result (λ t. IfSome t (λ d. d.link ≤ 255)) }
+        ensures within { IfOk result (λ t. IfSome t (λ d. d.count ≤ length buf.old)) }
     {
         let mut now = span.begun;
         if self.may_sleep(span) {
@@ -250,10 +271,10 @@ impl Intake {
         peers: &[Peer],
         begun: u64,
         buf: &mut [u8],
-    ) -> io::Result<Option<(u64, u16, usize)>>
+    ) -> io::Result<Option<Found>>
         requires { All (λ p. p.link ≤ 255) peers.now }
-        ensures link { IfOk result (λ t. IfSome t (λ d. d.1 ≤ 255)) }
-        ensures within { IfOk result (λ t. IfSome t (λ d. d.2 ≤ length buf.old)) }
+        ensures link { IfOk result (λ t. IfSome t (λ d. d.link ≤ 255)) }
+        ensures within { IfOk result (λ t. IfSome t (λ d. d.count ≤ length buf.old)) }
         ensures same_room { length buf.new ≡ length buf.old }
     {
         let look = socket.sleep(buf)?;
@@ -278,7 +299,7 @@ impl Intake {
         ensures same_room { length buf.new ≡ length buf.old }
     {
         let look = self.look_once(socket, begun, buf);
-        if look != Look::Empty || !self.haste.is_brisk() {
+        if look.is_something() || !self.haste.is_brisk() {
             return look;
         }
         for _ in 0..MOST_SOON {
@@ -288,13 +309,23 @@ impl Intake {
                 break;
             }
             let look = self.look_once(socket, now, buf);
-            if look != Look::Empty {
+            if look.is_something() {
                 self.haste = self.haste.met(took);
                 return look;
             }
         }
         self.haste = self.haste.missed();
         Look::Empty
+    }
+
+    /// Notes that the socket was empty at the moment `now`, where a look after it says so.
+    fn note_look(&mut self, look: Look, now: u64)
+        ensures empty { self.new.empty ≡ cond (is_empty_look look) now self.old.empty }
+        ensures same { (self.new.backlog ≡ self.old.backlog) × (self.new.haste ≡ self.old.haste) }
+    {
+        if let Look::Empty = look {
+            self.empty = now;
+        }
     }
 
     /// Looks for a datagram once, after the moment `now`.
@@ -306,11 +337,11 @@ impl Intake {
     ) -> Look
         ensures within { IsLook (length buf.old) result }
         ensures same_room { length buf.new ≡ length buf.old }
+        ensures empty { self.new.empty ≡ cond (is_empty_look result) now self.old.empty }
+        ensures same { self.new.backlog ≡ self.old.backlog }
     {
         let look = socket.look(buf);
-        if look == Look::Empty {
-            self.empty = now;
-        }
+        self.note_look(look, now);
         look
     }
 
@@ -324,10 +355,10 @@ impl Intake {
         peers: &[Peer],
         wait_ms: u32,
         buf: &mut [u8],
-    ) -> io::Result<Option<(u64, u16, usize)>>
+    ) -> io::Result<Option<Found>>
         requires { All (λ p. p.link ≤ 255) peers.now }
-        ensures link { IfOk result (λ t. IfSome t (λ d. d.1 ≤ 255)) }
-        ensures within { IfOk result (λ t. IfSome t (λ d. d.2 ≤ length buf.old)) }
+        ensures link { IfOk result (λ t. IfSome t (λ d. d.link ≤ 255)) }
+        ensures within { IfOk result (λ t. IfSome t (λ d. d.count ≤ length buf.old)) }
     {
         let begun = socket.now();
         if let Some(found) = self.at_hand(socket, peers, begun, buf) {
@@ -337,13 +368,13 @@ impl Intake {
         let span = WaitSpan { begun, until };
         if self.haste.is_brisk() || !self.may_sleep(span) {
             let look = self.look_soon(socket, begun, buf);
-            if look != Look::Empty {
+            if look.is_something() {
                 return Ok(self.judged(look, socket.now(), peers));
             }
         }
         let found = self.wait_for(socket, peers, span, buf)?;
         self.haste = match found {
-            Some((moment, _, _)) => self.haste.waited(moment.saturating_sub(begun)),
+            Some(found) => self.haste.waited(found.moment.saturating_sub(begun)),
             None => self.haste.rested(),
         };
         Ok(found)

@@ -1,6 +1,7 @@
 //! A UDP socket of the machine.
-ghost use Rattle.std.specs.Prelude.{◌≡◌, length, IfOk};
-ghost use Rattle.dt_machine.specs.Looks.{IsLook};
+ghost use Rattle.std.specs.Prelude.{◌≡◌, IfOk, false, length};
+ghost use Rattle.dt_machine.specs.Looks.{IsLook, is_something};
+ghost use Rattle.dt_machine.specs.Waits.{is_late};
 
 use crate::names::{Name, address_in, name_of};
 use crate::uptime::uptime;
@@ -34,8 +35,19 @@ pub enum Look {
     Datagram { from: Address, count: usize },
     /// A datagram that no peer has sent, as its address isn't one of IPv4, or a signal.
     Other,
-    /// Nothing.
+    /// Nothing: the socket was empty.
     Empty,
+    /// The machine's call failed, so whether the socket was empty isn't known.
+    Failed,
+}
+
+impl Look {
+    /// Whether something was taken out of the socket, or a signal came.
+    pub fn is_something(self) -> bool
+        ensures { result ≡ is_something self }
+    {
+        matches!(self, Look::Datagram { .. } | Look::Other)
+    }
 }
 
 /// A UDP socket, whose sleeps alone wait.
@@ -66,8 +78,9 @@ impl<'a, R: Net + time::Clock> Socket<'a, R> {
         uptime(self.rt).unwrap_or(0)
     }
 
-    /// Looks for a datagram without waiting. A longer one is cut to the buffer. A call that fails finds
-    /// nothing: why it failed is learned by a sleep.
+    /// Looks for a datagram without waiting. A longer one is cut to the buffer. `Empty` only where the
+    /// kernel says that nothing can be taken, after a call that took nothing. Why a call failed is
+    /// learned by a sleep.
     pub fn look(&self, buf: &mut [u8]) -> Look
         ensures within { IsLook (length buf.old) result }
         ensures same_room { length buf.new ≡ length buf.old }
@@ -77,7 +90,11 @@ impl<'a, R: Net + time::Clock> Socket<'a, R> {
         let fd = self.socket.as_raw_fd();
         let got = unsafe { recvfrom(fd, buf, MSG_DONTWAIT, &mut name, &mut len) };
         if got < 0 {
-            return Look::Empty;
+            return if self.wait(0) {
+                Look::Failed
+            } else {
+                Look::Empty
+            };
         }
         let count = got as usize;
         match address_in(&name) {
@@ -129,8 +146,12 @@ impl<'a, R: Net + time::Clock> Socket<'a, R> {
         self.wait_for(POLLOUT, LONGEST_SEND);
     }
 
-    /// Sends the octets to the address without waiting, and says whether all of them left.
-    pub fn send(&self, address: Address, octets: &[u8]) -> bool {
+    /// Sends the octets to the address without waiting, and says whether all of them left. They are of a
+    /// turn whose clock was read at the moment `read`, if it was, which is at most 20 ms past at the moment
+    /// `now`. Both are in nanoseconds.
+    pub fn send(&self, read: Option<u64>, now: u64, address: Address, octets: &[u8]) -> bool
+        requires { is_late read now ≡ false }
+    {
         let name = name_of(address);
         let fd = self.socket.as_raw_fd();
         let flags = MSG_DONTWAIT | MSG_NOSIGNAL;

@@ -1,13 +1,12 @@
 //! A wire over a UDP socket.
 ghost use Rattle.std.specs.Prelude.{ℕ, ◌≡◌, ◌≤◌, None, Some, false, length, All, IfOk, IfSome};
-ghost use Rattle.dt_machine.specs.Waits.{may_have_waited};
 ghost use Rattle.dt_machine.specs.Wires.{uncalled};
 
 use crate::intakes::Intake;
 use crate::moments::Moments;
 use crate::peers::address_of;
 use crate::sockets::Socket;
-use crate::waits::may_have_waited;
+use crate::waits::is_late;
 use crate::wire_counts::WireCounts;
 use dt_edges::{Address, Failed, Peer, Wire};
 use dt_items::NoMemory;
@@ -60,17 +59,6 @@ impl<'a, R: Net + time::Clock> UdpWire<'a, R> {
     }
 }
 
-/// Whether the moment of a turn, if there is one, is longer past than 20 ms.
-fn is_late(read: Option<u64>, now: u64) -> bool
-    ensures some { (moment : ℕ) → read ≡ Some moment → result ≡ may_have_waited moment now }
-    ensures none { read ≡ None → result ≡ false }
-{
-    match read {
-        Some(read) => may_have_waited(read, now),
-        None => false,
-    }
-}
-
 /// A socket that has the address, for peers that a wire has room for.
 fn bound<'a, R: Net + time::Clock>(
     rt: &'a R,
@@ -94,14 +82,16 @@ fn send_soon<R: Net + time::Clock>(
     address: Address,
     octets: &[u8],
 ) -> bool {
-    if is_late(moments.last_read(), socket.now()) {
+    let (read, now) = (moments.last_read(), socket.now());
+    if is_late(read, now) {
         return false;
     }
-    if socket.send(address, octets) {
+    if socket.send(read, now, address, octets) {
         return true;
     }
     socket.wait_for_room();
-    !is_late(moments.last_read(), socket.now()) && socket.send(address, octets)
+    let now = socket.now();
+    !is_late(read, now) && socket.send(read, now, address, octets)
 }
 
 impl<'a, R> Model for UdpWire<'a, R> {
@@ -178,9 +168,9 @@ impl<'a, R: Net + time::Clock> Wire for UdpWire<'a, R> {
             None => None,
         };
         match taken {
-            Some(Some((moment, link, count))) => {
-                self.moments.note_found(moment);
-                Ok(Some((link, count)))
+            Some(Some(found)) => {
+                self.moments.note_found(found.moment);
+                Ok(Some((found.link, found.count)))
             }
             Some(None) => Ok(None),
             None => {
