@@ -3,13 +3,13 @@ ghost use Rattle.std.specs.Prelude.{◌≡◌, ◌+◌, ◌<◌, ◌^◌};
 ghost use Rattle.dt_orders_turns.specs.Giving.{adopts, answers, heard_as, heard_held, hears, word_said};
 
 use crate::answers::{ALARM, INVALID, OK, STRANGE, UNSURE, WAITS, said_as};
-use crate::giving::{Given, Held, put_client, put_lane, put_left, read_held};
+use crate::giving::{Held, OrdersLane, put_client, put_lane, put_left, read_held};
 use dt_order_lanes::{adopt as adopt_client, hear as hear_answer, learn, take, unsure};
 use dt_orders_model::{Answer, Called, Hearing};
 use dt_orders_octets::{read_answer, read_client, read_request};
 
 fn take_heard(
-    turn: &mut Given,
+    turn: &mut OrdersLane,
     hearing: Hearing,
     held: &Held,
     heard: &(Called, Answer),
@@ -39,7 +39,7 @@ fn take_heard(
     }
 }
 
-fn hear_held(turn: &mut Given, held: &Held, heard: &(Called, Answer), record_number: u64) -> u8
+fn hear_held(turn: &mut OrdersLane, held: &Held, heard: &(Called, Answer), record_number: u64) -> u8
     requires { heard.now.1.value + 1 < 2 ^ 64 }
     ensures answer { result ≡ (heard_held held.now heard.now.0 heard.now.1 record_number turn.old).0 }
     ensures octets { turn.new ≡ (heard_held held.now heard.now.0 heard.now.1 record_number turn.old).1 }
@@ -53,7 +53,7 @@ fn hear_held(turn: &mut Given, held: &Held, heard: &(Called, Answer), record_num
 /// lane and the client's state in one record, and reports it when that is stored. `WAITS`, `UNSURE`, `STRANGE`:
 /// the order is called again, after the lane is stored if it has this record's number. `ALARM`: the server's
 /// store was set back, and nothing is called until [`adopt`].
-pub fn hear(turn: &mut Given, answer: &[u8], record_number: u64) -> u8
+pub fn hear(turn: &mut OrdersLane, answer: &[u8], record_number: u64) -> u8
     ensures answer { result ≡ (hears answer.now record_number turn.old).0 }
     ensures octets { turn.new ≡ (hears answer.now record_number turn.old).1 }
 {
@@ -85,7 +85,7 @@ pub fn word_of_answer(answer: &[u8]) -> u8
 
 /// The client goes on after an alarm with the server's store as it is now. The program calls it when all fates
 /// before the alarm are stored and reported, and stores the client's state.
-pub fn adopt(turn: &mut Given) -> u8
+pub fn adopt(turn: &mut OrdersLane) -> u8
     ensures answer { result ≡ (adopts turn.old).0 }
     ensures octets { turn.new ≡ (adopts turn.old).1 }
 {

@@ -13,7 +13,7 @@ pub use answers::{
     ALARM, AT_WORK, DONE, EXECUTE, FORKED, HELLO, INVALID, NEVER, NONE, NOT_NOW, OK, OLD, READ,
     STALE, STRANGE, TOLD, UNKNOWN, UNSURE, WAITS,
 };
-pub use giving::{Given, ask, call, cancel, give, made, start, unsure};
+pub use giving::{OrdersLane, ask, call, cancel, give, made, start, unsure};
 pub use hearing::{adopt, hear, word_of_answer};
-pub use serving::{Look, Seen, Served, judge, look_up};
+pub use serving::{OrdersLook, OrdersServer, Seen, judge, look_up};
 pub use writing::{answer, executed, finish, forget, open};

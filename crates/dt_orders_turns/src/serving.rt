@@ -15,10 +15,12 @@ use dt_registers::{judge as judge_row, place, touch_row, write_row as row_after}
 /// request names and the one after it, and the same of `knows`.
 #[repr(C)]
 #[derive(Clone, Copy)]
-pub struct Served {
+pub struct OrdersServer {
     pub numbers: [u8; 32],
     pub row: [u8; 40],
     pub openings: [u8; 64],
+    /// What [`crate::answer`] wrote.
+    pub answer: [u8; 56],
 }
 
 /// The same, read.
@@ -35,7 +37,7 @@ pub struct Seen {
 /// What a server looks up for a request: its lane, and the numbers of the openings that its two commits name.
 #[repr(C)]
 #[derive(Clone, Copy)]
-pub struct Look {
+pub struct OrdersLook {
     pub kind: u32,
     pub lane: u32,
     pub since: u32,
@@ -44,7 +46,7 @@ pub struct Look {
 
 /// What the octets say that a transaction read: `None` if they spell nothing, or the clock or the number of the
 /// opening has no room.
-pub(crate) fn read_seen(turn: &Served) -> Option<Seen>
+pub(crate) fn read_seen(turn: &OrdersServer) -> Option<Seen>
     ensures is { result ≡ seen_in turn.now }
     ensures clock { IfSome result (λ s. s.meta.clock + 1 < 2 ^ 64) }
     ensures opening { IfSome result (λ s. s.meta.opening + 1 < 2 ^ 32) }
@@ -62,7 +64,7 @@ pub(crate) fn read_seen(turn: &Served) -> Option<Seen>
     }
 }
 
-fn seen_of(turn: &Served, meta: &Meta, row: &Option<Row>) -> Seen
+fn seen_of(turn: &OrdersServer, meta: &Meta, row: &Option<Row>) -> Seen
     ensures { result ≡ seen_of turn.now meta.now row.now }
 {
     Seen {
@@ -116,7 +118,7 @@ pub(crate) fn verdict_seen(seen: &Seen, asked: &Asked, strict: bool) -> Verdict
 }
 
 /// What is written goes into the octets.
-pub(crate) fn put_written(turn: &mut Served, meta: &Meta, row: &Option<Row>)
+pub(crate) fn put_written(turn: &mut OrdersServer, meta: &Meta, row: &Option<Row>)
     ensures { turn.new ≡ written turn.old meta.now row.now }
 {
     let numbers = write_meta(meta);
@@ -125,7 +127,7 @@ pub(crate) fn put_written(turn: &mut Served, meta: &Meta, row: &Option<Row>)
     turn.row.copy_from_slice(octets.as_slice());
 }
 
-fn touch(turn: &mut Served, seen: &Seen)
+fn touch(turn: &mut OrdersServer, seen: &Seen)
     requires { seen.now.meta.clock + 1 < 2 ^ 64 }
     ensures { turn.new ≡ (touched_by seen.now.row seen.now turn.old).1 }
 {
@@ -135,7 +137,7 @@ fn touch(turn: &mut Served, seen: &Seen)
     }
 }
 
-fn act(turn: &mut Served, seen: &Seen, asked: &Asked, verdict: Verdict) -> u8
+fn act(turn: &mut OrdersServer, seen: &Seen, asked: &Asked, verdict: Verdict) -> u8
     requires { seen.now.meta.clock + 1 < 2 ^ 64 }
     ensures answer { result ≡ (acted verdict seen.now asked.now turn.old).0 }
     ensures octets { turn.new ≡ (acted verdict seen.now asked.now turn.old).1 }
@@ -164,7 +166,7 @@ fn act(turn: &mut Served, seen: &Seen, asked: &Asked, verdict: Verdict) -> u8
 
 /// Judges a request, and writes what needs no handler: a cancelled order, and a stamp. Answers what is said of
 /// it, or `EXECUTE`, or `READ`. The program stores the numbers and the row if they changed.
-pub fn judge(turn: &mut Served, request: &[u8], strict: bool) -> u8
+pub fn judge(turn: &mut OrdersServer, request: &[u8], strict: bool) -> u8
     ensures answer { result ≡ (judged request.now strict turn.old).0 }
     ensures octets { turn.new ≡ (judged request.now strict turn.old).1 }
 {
@@ -180,7 +182,7 @@ pub fn judge(turn: &mut Served, request: &[u8], strict: bool) -> u8
 }
 
 /// What a server looks up for a request. `INVALID` if the octets spell none.
-pub fn look_up(request: &[u8], look: &mut Look) -> u8
+pub fn look_up(request: &[u8], look: &mut OrdersLook) -> u8
     ensures answer { result ≡ (looked request.now look.old).0 }
     ensures look { look.new ≡ (looked request.now look.old).1 }
 {
@@ -188,7 +190,7 @@ pub fn look_up(request: &[u8], look: &mut Look) -> u8
         None => INVALID,
         Some(request) => {
             let knows = known_or(&request.called.since, &request.called.knows);
-            *look = Look {
+            *look = OrdersLook {
                 kind: u32::from(kind_code(request.called.kind)),
                 lane: request.lane,
                 since: request.called.since.opening,

@@ -4,7 +4,7 @@ ghost use Rattle.std.specs.Prelude.{◌≡◌, ◌+◌, ◌<◌, ◌^◌};
 ghost use Rattle.dt_orders_turns.specs.Serving.{answer_of, answered, executed as executed_in, finished, finished_row, forgotten, forgotten_row, is_execute, number_of, opened, opened_meta, state_as, value_of};
 
 use crate::answers::{INVALID, NONE, OK};
-use crate::serving::{Seen, Served, asked_by, put_written, read_seen, verdict_seen};
+use crate::serving::{OrdersServer, Seen, asked_by, put_written, read_seen, verdict_seen};
 use dt_orders_model::{Answer, Known, Meta, Opening, Row, RowState, Verdict, Word};
 use dt_orders_octets::{
     Request, read_meta, read_request, word_of, write_answer, write_meta, write_opening,
@@ -41,7 +41,7 @@ fn is_execute(verdict: Verdict) -> bool
 
 /// Writes the row of an order that the handler executed: it is done, or at work until [`finish`]. `NONE` if the
 /// judgement isn't that it is executed.
-pub fn executed(turn: &mut Served, request: &[u8], strict: bool, is_done: bool) -> u8
+pub fn executed(turn: &mut OrdersServer, request: &[u8], strict: bool, is_done: bool) -> u8
     ensures answer { result ≡ (executed_in request.now strict is_done turn.old).0 }
     ensures octets { turn.new ≡ (executed_in request.now strict is_done turn.old).1 }
 {
@@ -60,7 +60,7 @@ pub fn executed(turn: &mut Served, request: &[u8], strict: bool, is_done: bool) 
     OK
 }
 
-fn finish_seen(turn: &mut Served, seen: &Seen) -> u8
+fn finish_seen(turn: &mut OrdersServer, seen: &Seen) -> u8
     requires { seen.now.meta.clock + 1 < 2 ^ 64 }
     ensures answer { result ≡ (finished_row seen.now.row seen.now turn.old).0 }
     ensures octets { turn.new ≡ (finished_row seen.now.row seen.now turn.old).1 }
@@ -76,7 +76,7 @@ fn finish_seen(turn: &mut Served, seen: &Seen) -> u8
 }
 
 /// Writes that the row's order, which was at work, has its result. `NONE` if it isn't at work.
-pub fn finish(turn: &mut Served) -> u8
+pub fn finish(turn: &mut OrdersServer) -> u8
     ensures answer { result ≡ (finished turn.old).0 }
     ensures octets { turn.new ≡ (finished turn.old).1 }
 {
@@ -86,7 +86,7 @@ pub fn finish(turn: &mut Served) -> u8
     }
 }
 
-fn forget_seen(turn: &mut Served, seen: &Seen) -> u8
+fn forget_seen(turn: &mut OrdersServer, seen: &Seen) -> u8
     requires { seen.now.meta.clock + 1 < 2 ^ 64 }
     ensures answer { result ≡ (forgotten_row seen.now.row seen.now turn.old).0 }
     ensures octets { turn.new ≡ (forgotten_row seen.now.row seen.now turn.old).1 }
@@ -103,7 +103,7 @@ fn forget_seen(turn: &mut Served, seen: &Seen) -> u8
 
 /// Forgets the row: it is zeros then, and the program deletes it. `NONE` if the lane has none, or its order is
 /// at work.
-pub fn forget(turn: &mut Served) -> u8
+pub fn forget(turn: &mut OrdersServer) -> u8
     ensures answer { result ≡ (forgotten turn.old).0 }
     ensures octets { turn.new ≡ (forgotten turn.old).1 }
 {
@@ -129,7 +129,7 @@ fn opened_meta(meta: &Meta, nonce: u64) -> Meta
 /// Opens a store: the numbers, zeros of a store that was never opened, become those of the new opening, and the
 /// first 16 octets of `openings` are the opening. The program stores both and syncs them before it judges a
 /// request.
-pub fn open(turn: &mut Served, nonce: u64) -> u8
+pub fn open(turn: &mut OrdersServer, nonce: u64) -> u8
     ensures answer { result ≡ (opened turn.old nonce).0 }
     ensures octets { turn.new ≡ (opened turn.old nonce).1 }
 {
@@ -193,9 +193,9 @@ fn answer_of(seen: &Seen, request: &Request, word: Word) -> Answer
 
 /// The octets of the answer that says this of a request, after what was written for it. They stand before the
 /// result. `INVALID` if `said` is no word from `DONE` to `TOLD`.
-pub fn answer(turn: &Served, request: &[u8], said: u8, octets: &mut [u8; 56]) -> u8
-    ensures answer { result ≡ (answered turn.now request.now said octets.old).0 }
-    ensures octets { octets.new ≡ (answered turn.now request.now said octets.old).1 }
+pub fn answer(turn: &mut OrdersServer, request: &[u8], said: u8) -> u8
+    ensures answer { result ≡ (answered request.now said turn.old).0 }
+    ensures octets { turn.new ≡ (answered request.now said turn.old).1 }
 {
     if said < 65 || said > 73 {
         return INVALID;
@@ -207,7 +207,7 @@ pub fn answer(turn: &Served, request: &[u8], said: u8, octets: &mut [u8; 56]) ->
         return INVALID;
     };
     let word = word_of(u64::from(said - 64));
-    let written = write_answer(&answer_of(&seen, &request, word));
-    octets.copy_from_slice(written.as_slice());
+    let octets = write_answer(&answer_of(&seen, &request, word));
+    turn.answer.copy_from_slice(octets.as_slice());
     OK
 }
