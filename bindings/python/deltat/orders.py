@@ -166,7 +166,8 @@ class Store(Protocol):
     def replace(self, records: Sequence[bytes]) -> None:
         """Keeps these records in place of all. After a crash the store has these or those from before."""
 
-    def close(self) -> None: ...
+    def close(self) -> None:
+        ...
 
 
 class Log:
@@ -610,7 +611,8 @@ class _Book:
 
 def _is_forked(octets: bytes) -> bool:
     """Whether an answer says that the server's store hasn't the commit that the question carried."""
-    return library.dt_orders_word(octets[:_ANSWER], min(len(octets), _ANSWER)) == _Said.FORKED
+    said: int = library.dt_orders_word(octets[:_ANSWER], min(len(octets), _ANSWER))
+    return said == _Said.FORKED
 
 
 class _Backoff:
@@ -1008,7 +1010,8 @@ class Database(Protocol):
     def commit(self) -> None:
         """Commits it: it outlives a power cut when this returns."""
 
-    def rollback(self) -> None: ...
+    def rollback(self) -> None:
+        ...
 
     def run(self, text: str, *values: object) -> list[tuple[Any, ...]]:
         """Runs a statement with `?` for its values, and returns its rows."""
@@ -1016,7 +1019,8 @@ class Database(Protocol):
     def guard(self, is_on: bool) -> None:
         """While it is on, the connection refuses to end the transaction."""
 
-    def close(self) -> None: ...
+    def close(self) -> None:
+        ...
 
 
 _TABLES = (
@@ -1060,7 +1064,9 @@ class Sqlite:
 
 
 def _refuses_ends(action: int, *_: object) -> int:
-    return sqlite3.SQLITE_DENY if action in (sqlite3.SQLITE_TRANSACTION, sqlite3.SQLITE_SAVEPOINT) else sqlite3.SQLITE_OK
+    return (
+        sqlite3.SQLITE_DENY if action in (sqlite3.SQLITE_TRANSACTION, sqlite3.SQLITE_SAVEPOINT) else sqlite3.SQLITE_OK
+    )
 
 
 class Postgres:
@@ -1106,7 +1112,8 @@ Reads = Callable[[Any, bytes], bytes]
 class Served:
     """A server's orders: each is executed in the transaction of its row.
 
-    A function that raises is rolled back, and its client calls again. It must have no effect but in the database, through
+    A function that raises is rolled back, and its client calls again. It must have no effect but in the database,
+    through
     the connection that it is given, and must not end the transaction."""
 
     def __init__(
@@ -1177,7 +1184,9 @@ class Served:
         """What a transaction reads for a request, and the result beside the row."""
         turn = OrdersServer()
         turn.numbers = _octets(numbers, ctypes.c_uint8 * 32)
-        rows = self.database.run("SELECT octets, result FROM orders_rows WHERE client = ? AND lane = ?", client, look.lane)
+        rows = self.database.run(
+            "SELECT octets, result FROM orders_rows WHERE client = ? AND lane = ?", client, look.lane
+        )
         row, result = rows[0] if rows else (bytes(40), b"")
         turn.row = _octets(bytes(row), ctypes.c_uint8 * 40)
         wanted = (look.since, look.since + 1, look.knows, look.knows + 1)
