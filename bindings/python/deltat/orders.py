@@ -572,6 +572,12 @@ class _Book:
         self.state.read(record)
         self.append(record)
 
+    def take_all(self, told: list[int]) -> None:
+        """The program came back: it has the fates that it was told."""
+        for uid in told:
+            self.taken(uid)
+        told.clear()
+
     # questions, and a set back
 
     def question(self, answer: bytes = b"", body: bytes = b"") -> tuple[OrdersLane, bytes]:
@@ -600,19 +606,42 @@ class _Book:
         lane = self._turn(0)
         _call(library.dt_orders_adopt, lane)
         self.client = bytes(lane.client)
-        self.append(bytes([_KNOWN]) + self.client)
+        # (first what is undone: of a part of these records the alarm comes again)
         for it in undone:
             record = bytes([_UNDONE]) + struct.pack(">Q", it.uid)
             self.state.read(record)
             self.append(record)
+        self.append(bytes([_KNOWN]) + self.client)
         self.state.client = self.client
         self.write()
 
 
-def _is_forked(octets: bytes) -> bool:
-    """Whether an answer says that the server's store hasn't the commit that the question carried."""
-    said: int = library.dt_orders_word(octets[:_ANSWER], min(len(octets), _ANSWER))
-    return said == _Said.FORKED
+class _Halving:
+    """Finds which orders that were done the server's store lost: those from one on, in the order of their commits. All
+    answers must be of one opening of the store: if it is set back meanwhile, the search begins again."""
+
+    def __init__(self, done: Sequence[_Kept]) -> None:
+        self.done, self.opening, self.least, self.most = done, b"", 0, len(done)
+
+    def asks(self) -> bytes:
+        """The answer whose commit is asked about: none if the search is over."""
+        return self.done[(self.least + self.most) // 2].answer if self.least < self.most else b""
+
+    def take(self, octets: bytes) -> None:
+        """Takes what was answered."""
+        opening, had = octets[16:32], self.opening
+        self.opening = opening
+        if had and opening != had:
+            self.least, self.most = 0, len(self.done)
+            return
+        middle = (self.least + self.most) // 2
+        if library.dt_orders_word(octets[:_ANSWER], min(len(octets), _ANSWER)) == _Said.FORKED:
+            self.most = middle
+        else:
+            self.least = middle + 1
+
+    def undone(self) -> list[Order]:
+        return sorted((it.order for it in self.done[self.least :]), key=lambda it: it.uid)
 
 
 class _Backoff:
@@ -664,6 +693,7 @@ class Orders:
         self._sends, self._sleep, self._waits = sends, sleep, waits
         self._book = _Book(store, 1, once, keep)
         self._undone: list[Order] | None = None
+        self._told: list[int] = []
 
     def __enter__(self) -> Orders:
         return self
@@ -673,7 +703,11 @@ class Orders:
 
     def close(self) -> None:
         """Closes the store. Orders without a fate stay in it."""
-        self._book.store.close()
+        self._book.take_all(self._told)
+        try:
+            self._book.write()
+        finally:
+            self._book.store.close()
 
     @property
     def unsettled(self) -> list[Order]:
@@ -684,17 +718,19 @@ class Orders:
         """Returns the fates of earlier lives that no program took, each once."""
         for it in list(self._book.state.fates.values()):
             if it.order.uid not in self._book.state.taken:
-                self._book.taken(it.order.uid)
                 yield it.order, it.fate
+                self._book.taken(it.order.uid)
 
     def give(self, body: bytes, timeout: float | None = None) -> Fate:
         """Gives an order, and returns its fate. Raises StillOpen after `timeout` seconds (None: never); SetBack; and
-        NotStored. Costs a round trip and two syncs."""
+        NotStored. Costs a round trip and two syncs. The next call of this object, or `close`, notes that the program
+        has the fate; a program that dies before gets it from `untaken` in its next life."""
         return self.settle(self.note(body, timeout), timeout)
 
     def note(self, body: bytes, timeout: float | None = None) -> Order:
         """Notes an order: when it returns, the order is in the store, and `settle` calls it. Raises InvalidArgument if
         another order has no fate; StillOpen if the server wasn't heard of in time; SetBack; NotStored."""
+        self._book.take_all(self._told)
         self._check()
         self._meet(timeout)
         lane = self._book.free_lane()
@@ -706,6 +742,7 @@ class Orders:
 
     def settle(self, order: Order, timeout: float | None = None) -> Fate:
         """Calls an order until it has its fate. Raises as `give`."""
+        self._book.take_all(self._told)
         end = None if timeout is None else time.monotonic() + timeout
         wait = _Backoff(*self._waits)
         while (fate := self._book.fate(order.uid)) is None:
@@ -715,8 +752,7 @@ class Orders:
                 if self._book.is_stopped:
                     continue
                 self._pause(wait.again(), end, order)
-        self._book.taken(order.uid)
-        self._book.write()
+        self._told.append(order.uid)
         return fate
 
     def cancel(self, order: Order) -> None:
@@ -799,21 +835,14 @@ class Orders:
         book.write()
 
     def _find_undone(self) -> list[Order]:
-        """Which orders that were done the server's store lost: those behind the first, by halving."""
-        done, least, most = self._book.done(), 0, 0
-        most = len(done)
-        wait = _Backoff(*self._waits)
-        while least < most:
-            middle = (least + most) // 2
-            _, request = self._book.question(done[middle].answer)
-            octets = self._sent(request)
+        search, wait = _Halving(self._book.done()), _Backoff(*self._waits)
+        while answer := search.asks():
+            octets = self._sent(self._book.question(answer)[1])
             if octets is None:
                 self._sleep(wait.again())
-            elif _is_forked(octets):
-                most = middle
             else:
-                least = middle + 1
-        return sorted((it.order for it in done[least:]), key=lambda it: it.uid)
+                search.take(octets)
+        return search.undone()
 
 
 class AsyncOrders:
@@ -841,6 +870,7 @@ class AsyncOrders:
         self._writing: asyncio.Task[None] | None = None
         self._meeting = asyncio.Lock()
         self._undone: list[Order] | None = None
+        self._told: list[int] = []
 
     async def __aenter__(self) -> AsyncOrders:
         return self
@@ -852,10 +882,12 @@ class AsyncOrders:
 
     async def close(self) -> None:
         """Closes the store. Orders without a fate stay in it."""
-        if self._writing:
-            await asyncio.wait([self._writing])
-        self._thread.shutdown()
-        self._book.store.close()
+        self._book.take_all(self._told)
+        try:
+            await self._written()
+        finally:
+            self._thread.shutdown()
+            self._book.store.close()
 
     @property
     def unsettled(self) -> list[Order]:
@@ -868,6 +900,7 @@ class AsyncOrders:
 
     async def note(self, body: bytes) -> Order:
         """Notes an order when a lane is free: it is in the store then. Raises SetBack, NotStored."""
+        self._book.take_all(self._told)
         await self._meet()
         lane = await self._free.get()
         try:
@@ -888,7 +921,7 @@ class AsyncOrders:
             if self._book.fate(order.uid) is None and not self._book.is_stopped:
                 await asyncio.sleep(wait.again())
         await self._written()
-        self._book.taken(order.uid)
+        self._told.append(order.uid)
         if order.lane in self._book.usable:
             self._free.put_nowait(order.lane)
         return fate
@@ -972,20 +1005,14 @@ class AsyncOrders:
             self._writing = None
 
     async def _find_undone(self) -> list[Order]:
-        done = self._book.done()
-        least, most = 0, len(done)
-        wait = _Backoff(*self._waits)
-        while least < most:
-            middle = (least + most) // 2
-            _, request = self._book.question(done[middle].answer)
-            octets = await self._sent(request)
+        search, wait = _Halving(self._book.done()), _Backoff(*self._waits)
+        while answer := search.asks():
+            octets = await self._sent(self._book.question(answer)[1])
             if octets is None:
                 await asyncio.sleep(wait.again())
-            elif _is_forked(octets):
-                most = middle
             else:
-                least = middle + 1
-        return sorted((it.order for it in done[least:]), key=lambda it: it.uid)
+                search.take(octets)
+        return search.undone()
 
 
 # --- the server's half

@@ -160,11 +160,19 @@ heard_as hearing.Used h c a at t = left_as waits (left_of h.client h.lane c a at
 abbrev pub heard_held : Held → Called → Answer → ℕ → OrdersLane → ℕ × OrdersLane
 heard_held h c a at t = heard_as (hearing_of h.client.known c a) h c a at (with_client t (known_after h.client (hearing_of h.client.known c a) a))
 
+-- only of an answer whose value is below 2^63 - 1
+abbrev pub heard_if : Bool → Held → Called → Answer → ℕ → OrdersLane → ℕ × OrdersLane
+heard_if true h c a at t = heard_held h c a at t
+heard_if false h c a at t = (invalid, t)
+
+abbrev pub heard_fit : Held → Called → Answer → ℕ → OrdersLane → ℕ × OrdersLane
+heard_fit h c a at t = heard_if (nat_lt a.value most_number) h c a at t
+
 abbrev pub hears_by : Option Held → Option Request → Option Answer → ℕ → OrdersLane → ℕ × OrdersLane
 hears_by None q a at t = (invalid, t)
 hears_by (Some h) None a at t = (invalid, t)
 hears_by (Some h) (Some q) None at t = (invalid, t)
-hears_by (Some h) (Some q) (Some a) at t = if nat_lt a.value most_number then heard_held h q.called a at t else (invalid, t)
+hears_by (Some h) (Some q) (Some a) at t = heard_fit h q.called a at t
 
 abbrev pub hears : List ℕ → ℕ → OrdersLane → ℕ × OrdersLane
 hears answer at t = hears_by (held_in t) (read_if (is_request t.request) (request_in t.request)) (answers answer) at t

@@ -1,6 +1,6 @@
 //! What a client makes of an answer.
 ghost use Rattle.std.specs.Prelude.{◌≡◌, ◌+◌, ◌<◌, ◌^◌};
-ghost use Rattle.dt_orders_turns.specs.Giving.{adopts, answers, heard_as, heard_held, hears, word_said};
+ghost use Rattle.dt_orders_turns.specs.Giving.{adopts, answers, heard_as, heard_fit, heard_held, hears, word_said};
 
 use crate::answers::{ALARM, INVALID, OK, STRANGE, UNSURE, WAITS, said_as};
 use crate::giving::{Held, OrdersLane, put_client, put_lane, put_left, read_held};
@@ -49,6 +49,17 @@ fn hear_held(turn: &mut OrdersLane, held: &Held, heard: &(Called, Answer), recor
     take_heard(turn, hearing, held, heard, record_number)
 }
 
+fn hear_fit(turn: &mut OrdersLane, held: &Held, heard: &(Called, Answer), record_number: u64) -> u8
+    ensures answer { result ≡ (heard_fit held.now heard.now.0 heard.now.1 record_number turn.old).0 }
+    ensures octets { turn.new ≡ (heard_fit held.now heard.now.0 heard.now.1 record_number turn.old).1 }
+{
+    if heard.1.value < 9_223_372_036_854_775_807 {
+        hear_held(turn, held, heard, record_number)
+    } else {
+        INVALID
+    }
+}
+
 /// An answer to the call of the request. A fate: the program stores it, the answer's octets, its result, the
 /// lane and the client's state in one record, and reports it when that is stored. `WAITS`, `UNSURE`, `STRANGE`:
 /// the order is called again, after the lane is stored if it has this record's number. `ALARM`: the server's
@@ -66,11 +77,7 @@ pub fn hear(turn: &mut OrdersLane, answer: &[u8], record_number: u64) -> u8
     let Some(answer) = read_answer(answer) else {
         return INVALID;
     };
-    if answer.value < 9_223_372_036_854_775_807 {
-        hear_held(turn, &held, &(request.called, answer), record_number)
-    } else {
-        INVALID
-    }
+    hear_fit(turn, &held, &(request.called, answer), record_number)
 }
 
 /// The word of an answer, from `DONE` to `TOLD`. `INVALID` if the octets spell none.
