@@ -13,6 +13,7 @@
  *   3 Status codes                 7 Output       11 Services: request and reply
  *   4 Types                        8 Messages     12 Helpers: names, log lines, parameters
  *  13 The watch: how old a datagram is
+ *  14 Orders: calls that are executed once at most
  *
  * What is proved. The contract of each function (crates/dt_c) is proved for all arguments, under
  * duty 1. What the calls of several nodes give together is proved by the laws of
@@ -975,6 +976,172 @@ uint64_t dt_watch_aim(uint64_t base, uint64_t budget, uint64_t resend);
 /* Returns by how many thousandths a window shrinks after a round whose delay in queues was above
  * `aim`: 80 to 500. 0 if it wasn't, or an argument is 2^50 or more. */
 uint32_t dt_watch_cut(uint64_t queue, uint64_t base, uint64_t aim);
+
+/* ---- 14 ORDERS: CALLS THAT ARE EXECUTED ONCE AT MOST ----
+ *
+ * An order is a call that its client notes in a store before it calls it, and whose server keeps a
+ * row for it in the transaction of its effect (docs/orders.md). The library does no I/O: it says
+ * which octets to store and which to send. Each field of the structs below is octets that you store
+ * and hand in again as they are (docs/formats.md has what is in them). No function allocates. A
+ * function that returns DT_INVALID, because octets spell nothing or a counter has no room, changed
+ * nothing; so did one that returns DT_NONE.
+ *
+ * THE SERVER, in one transaction of its own database for each request:
+ *   1. dt_orders_look_up; read the numbers of the store, the row of that client's lane (zeros if it
+ *      has none) and four openings (zeros if there is none): that of `since` and the one after it,
+ *      that of `knows` and the one after it.
+ *   2. dt_orders_judge. DT_ORDER_EXECUTE: run the handler in the transaction. If it fails, undo what
+ *      it did and say DT_ORDER_NOT_NOW; else dt_orders_executed, and say DT_ORDER_DONE (or
+ *      DT_ORDER_AT_WORK) with the result that you store beside the row. DT_ORDER_READ: answer the
+ *      question, and say DT_ORDER_TOLD. Any other value is what to say.
+ *   3. Write the numbers and the row if they changed, dt_orders_answer, commit. Send the answer, and
+ *      the result behind it, when all that the transaction read or wrote is synced.
+ * Before its first request a server opens its store: dt_orders_open, commit and sync. It opens it
+ * again if it finds other numbers in the store than it wrote last.
+ *
+ * THE CLIENT, for each lane (one order at a time):
+ *   1. dt_orders_start with what the store has; store something, and sync. dt_orders_ask, call, and
+ *      dt_orders_hear once, if it never heard of its server.
+ *   2. dt_orders_give; store the lane and the order's body under a record number that rises.
+ *   3. dt_orders_call with the number of the last record that is synced; send `request` and the body
+ *      behind it, then dt_orders_made.
+ *   4. The call's end: dt_orders_hear, or dt_orders_unsure. Then from 3 on again, until there is a
+ *      fate. Store a fate, the answer, its result, the lane and `client` in one record, and report
+ *      the fate when that is synced. */
+
+struct dt_orders_server { /* what a transaction of a server reads and writes */
+    uint8_t numbers[32];  /* of the store: zeros before its first opening */
+    uint8_t row[40];      /* of the request's lane; zeros: it has none */
+    uint8_t openings[64]; /* four of 16 octets each, zeros: none; dt_orders_open writes the first */
+    uint8_t answer[56];   /* what dt_orders_answer wrote */
+};
+
+struct dt_orders_lane {   /* what a client keeps */
+    uint8_t client[80];   /* what it knows of its server, which its lanes share; zeros at first */
+    uint8_t lane[104];    /* zeros at first */
+    uint8_t request[112]; /* what was called last on this lane */
+};
+
+struct dt_orders_look {   /* what a server looks up for a request */
+    uint32_t kind;        /* 1 an order, 2 a cancel, 3 a question */
+    uint32_t lane;        /* the client's lane */
+    uint32_t since;       /* numbers of two openings of the store: 0 is the first one */
+    uint32_t knows;
+};
+
+enum dt_order {              /* what the functions of orders return beside DT_OK, DT_INVALID, DT_NONE */
+    DT_ORDER_DONE = 65,      /* it was executed exactly once, and the result is its own */
+    DT_ORDER_NEVER = 66,     /* it was cancelled: it wasn't executed and never is */
+    DT_ORDER_AT_WORK = 67,   /* it was executed, and has no result yet */
+    DT_ORDER_NOT_NOW = 68,   /* its handler failed: it wasn't executed now */
+    DT_ORDER_OLD = 69,       /* the server forgot what it would need to know */
+    DT_ORDER_STALE = 70,     /* its number was used */
+    DT_ORDER_FORKED = 71,    /* its client knows of a commit that the store lost */
+    DT_ORDER_HELLO = 72,     /* its client must hear of the present opening first */
+    DT_ORDER_TOLD = 73,      /* a question is answered */
+    DT_ORDER_EXECUTE = 80,   /* run the handler */
+    DT_ORDER_READ = 81,      /* answer the question */
+    DT_ORDER_UNKNOWN = 82,   /* it was executed once or not at all, and no call of it is any more */
+    DT_ORDER_WAITS = 83,     /* the answer was used; call again */
+    DT_ORDER_STRANGE = 84,   /* the answer is of another call; call again */
+    DT_ORDER_UNSURE = 85,    /* the answer says nothing; call again */
+    DT_ORDER_ALARM = 86      /* the server's store was set back: nothing is called until
+                                dt_orders_adopt */
+};
+
+/* Opens a server's store: `numbers` become those of the new opening, and the first 16 octets of
+ * `openings` are the opening. `nonce`: 64 drawn bits. The opening's number is the big-endian number
+ * in `numbers` from octet 16 on.
+ *   DT_OK  DT_INVALID */
+dt_status dt_orders_open(struct dt_orders_server *server, uint64_t nonce);
+
+/* Gets what a server looks up for a request: the 112 octets before its body.
+ *   DT_OK
+ *   DT_INVALID  they spell no request */
+dt_status dt_orders_look_up(const uint8_t *request, size_t len, struct dt_orders_look *look);
+
+/* Judges a request, and writes what needs no handler: a cancelled order, or a row's stamp. Returns
+ * an enum dt_order, up to DT_ORDER_READ, or DT_INVALID. `strict`: a client must know the present
+ * opening; so it must be if the store may be set back and the transport may deliver an old call. */
+dt_status dt_orders_judge(struct dt_orders_server *server, const uint8_t *request, size_t len,
+                          bool strict);
+
+/* Writes the row of an order that the handler executed, `done` or at work.
+ *   DT_OK
+ *   DT_NONE     dt_orders_judge doesn't say DT_ORDER_EXECUTE of it
+ *   DT_INVALID */
+dt_status dt_orders_executed(struct dt_orders_server *server, const uint8_t *request, size_t len,
+                             bool strict, bool done);
+
+/* Writes that the row's order, which was at work, has its result.
+ *   DT_OK
+ *   DT_NONE     it isn't at work
+ *   DT_INVALID */
+dt_status dt_orders_finish(struct dt_orders_server *server);
+
+/* Forgets the row: it is zeros then, and you delete it.
+ *   DT_OK
+ *   DT_NONE     there is none, or its order is at work
+ *   DT_INVALID */
+dt_status dt_orders_forget(struct dt_orders_server *server);
+
+/* Writes the answer to a request: DT_ORDER_DONE to DT_ORDER_TOLD.
+ *   DT_OK  DT_INVALID */
+dt_status dt_orders_answer(struct dt_orders_server *server, const uint8_t *request, size_t len,
+                           uint8_t said);
+
+/* A new opening of a client's store, with 64 drawn bits, for a lane of this number: called for each
+ * lane, with the same nonce. `once`: the transport delivers each call once at most.
+ *   DT_OK  DT_INVALID */
+dt_status dt_orders_start(struct dt_orders_lane *lane, uint64_t nonce, uint32_t number, bool once);
+
+/* Notes an order on the lane: `uid` is your name for it, `record` the record that you store it in.
+ *   DT_OK
+ *   DT_NONE     the lane has one, or the client never heard of its server or had an alarm
+ *   DT_INVALID */
+dt_status dt_orders_give(struct dt_orders_lane *lane, uint64_t uid, uint64_t record);
+
+/* Writes the request of the lane's order. `stored`: the last record that is synced. `count`: another
+ * number for each call and question since dt_orders_start.
+ *   DT_OK
+ *   DT_NONE     there is nothing to call: no order, not stored, a call waits, or an alarm
+ *   DT_INVALID */
+dt_status dt_orders_call(struct dt_orders_lane *lane, uint64_t stored, uint32_t count);
+
+/* Writes the request of a question. If `len` is 0 it carries what the client knows; else what this
+ * answer named, and the server says DT_ORDER_FORKED exactly if its store lost that. Use a struct of
+ * its own for questions, and copy `client` back.
+ *   DT_OK  DT_INVALID */
+dt_status dt_orders_ask(struct dt_orders_lane *lane, const uint8_t *answer, size_t len,
+                        uint32_t count);
+
+/* The request was sent, or may have been (`sent`), or certainly wasn't.
+ *   DT_OK  DT_INVALID */
+dt_status dt_orders_made(struct dt_orders_lane *lane, bool sent);
+
+/* The call ended without an answer.
+ *   DT_OK  DT_INVALID */
+dt_status dt_orders_unsure(struct dt_orders_lane *lane);
+
+/* Takes the answer to the request: the 56 octets before its result. Returns a fate (DT_ORDER_DONE,
+ * NEVER or UNKNOWN), DT_ORDER_WAITS to DT_ORDER_ALARM, or DT_INVALID. Store the lane under `record`
+ * if it changed, before you call again. */
+dt_status dt_orders_hear(struct dt_orders_lane *lane, const uint8_t *answer, size_t len,
+                         uint64_t record);
+
+/* Returns what an answer says, DT_ORDER_DONE to DT_ORDER_TOLD, or DT_INVALID. */
+dt_status dt_orders_word(const uint8_t *answer, size_t len);
+
+/* Cancels the lane's order. Returns
+ *   DT_ORDER_NEVER  it was never called: that is its fate
+ *   DT_OK           it is asked about from now on: its fate is an answer's
+ *   DT_NONE         the lane has no order
+ *   DT_INVALID */
+dt_status dt_orders_cancel(struct dt_orders_lane *lane);
+
+/* Goes on after an alarm, when all fates before it are stored and reported. Store `client`.
+ *   DT_OK  DT_INVALID */
+dt_status dt_orders_adopt(struct dt_orders_lane *lane);
 
 #ifdef __cplusplus
 }

@@ -136,6 +136,25 @@ enum class Judgement : std::uint8_t {
     Early = DT_JUDGED_EARLY,
     OtherParameters = DT_JUDGED_OTHER_PARAMETERS,
 };
+
+enum class Order : std::uint8_t {
+    Done = DT_ORDER_DONE,
+    Never = DT_ORDER_NEVER,
+    AtWork = DT_ORDER_AT_WORK,
+    NotNow = DT_ORDER_NOT_NOW,
+    Old = DT_ORDER_OLD,
+    Stale = DT_ORDER_STALE,
+    Forked = DT_ORDER_FORKED,
+    Hello = DT_ORDER_HELLO,
+    Told = DT_ORDER_TOLD,
+    Execute = DT_ORDER_EXECUTE,
+    Read = DT_ORDER_READ,
+    Unknown = DT_ORDER_UNKNOWN,
+    Waits = DT_ORDER_WAITS,
+    Strange = DT_ORDER_STRANGE,
+    Unsure = DT_ORDER_UNSURE,
+    Alarm = DT_ORDER_ALARM,
+};
 // end: made by release/interface.py
 
 // "DT_FULL", as deltat.h has it

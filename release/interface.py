@@ -314,7 +314,7 @@ def extent(it: Type) -> tuple[int, int]:
     if it.is_pointer:
         return 8, 8
     if name in SIZES:
-        return SIZES[name], SIZES[name]
+        return SIZES[name] * (it.count or 1), SIZES[name]
     struct = next((one for one in header().structs if one.name == name), None)
     if struct is None:
         raise Unreadable(f"no size is known of {name}")
@@ -710,6 +710,8 @@ MADE: dict[Path, Callable[[], str]] = {
 ALSO_IN_RATTLE = ("params", "flow", "link", "route", "report", "token", "network", "call_counts",
                   "passage", "arrival")
 EXPORTED = {f"dt_{it}": f"C{camel(it)}" for it in ALSO_IN_RATTLE}
+# the crates that have the structs
+STRUCT_CRATES = ("dt_c", "dt_orders_turns")
 # functions that plain C of lib/ has
 IN_C = re.compile(r"dt_(version|(status|fault|report)_name|report_line|(node|service)_(new|free))")
 RATTLE_TYPES = {
@@ -723,6 +725,9 @@ STRUCT = re.compile(r"#\[repr\(C\)\]\s*(?:#\[[^\n]*\]\s*)*pub struct (\w+)(?:<[^
 def rattle_types(text: str) -> Iterator[Type]:
     """What a type of an export is in C: a slice is a pointer and a length, and the allocator is nothing."""
     names = {EXPORTED.get(it.name, camel(it.name)): it.name for it in header().structs}
+    if array := re.fullmatch(r"\[(\w+); (\d+)\]", text):
+        yield Type(RATTLE_TYPES[array[1]], count=int(array[2]))
+        return
     found = re.fullmatch(r"(&mut |&(?:'a )?|\*mut )?\[?(\w+)(?:<[^>]*>)?\]?", text)
     if not found:
         raise Unreadable(f"no type of an export is known of: {text}")
@@ -747,7 +752,7 @@ def exported_functions() -> dict[str, tuple[list[Type], Type]]:
 
 def exported_structs() -> dict[str, list[Type]]:
     found = {}
-    for path in sorted((TOP / "crates" / "dt_c" / "src").glob("*.rt")):
+    for path in sorted(it for crate in STRUCT_CRATES for it in (TOP / "crates" / crate / "src").glob("*.rt")):
         for it in STRUCT.finditer(path.read_text()):
             fields = re.findall(r"^\s*(?:pub )?(\w+): ([^,\n]+),", it[2], re.MULTILINE)
             found[it[1]] = [kind for _, one in fields for kind in rattle_types(one)]

@@ -198,4 +198,21 @@ AT(dt_arrival, came, 16);
 AT(dt_arrival, fingerprint, 24);
 AT(dt_arrival, is_frame, 28);
 
+SIZE(dt_orders_server, 192);
+AT(dt_orders_server, numbers, 0);
+AT(dt_orders_server, row, 32);
+AT(dt_orders_server, openings, 72);
+AT(dt_orders_server, answer, 136);
+
+SIZE(dt_orders_lane, 296);
+AT(dt_orders_lane, client, 0);
+AT(dt_orders_lane, lane, 80);
+AT(dt_orders_lane, request, 184);
+
+SIZE(dt_orders_look, 16);
+AT(dt_orders_look, kind, 0);
+AT(dt_orders_look, lane, 4);
+AT(dt_orders_look, since, 8);
+AT(dt_orders_look, knows, 12);
+
 int main(void) { return 0; }

@@ -136,6 +136,27 @@ class Judgement(enum.IntEnum):
     OTHER_PARAMETERS = 36
 
 
+class Order(enum.IntEnum):
+    """`enum dt_order`."""
+
+    DONE = 65
+    NEVER = 66
+    AT_WORK = 67
+    NOT_NOW = 68
+    OLD = 69
+    STALE = 70
+    FORKED = 71
+    HELLO = 72
+    TOLD = 73
+    EXECUTE = 80
+    READ = 81
+    UNKNOWN = 82
+    WAITS = 83
+    STRANGE = 84
+    UNSURE = 85
+    ALARM = 86
+
+
 class Flow(ctypes.Structure):
     """`struct dt_flow`."""
 
@@ -452,6 +473,38 @@ class Arrival(ctypes.Structure):
     ]
 
 
+class OrdersServer(ctypes.Structure):
+    """What a transaction of a server reads and writes."""
+
+    _fields_ = [
+        ("numbers", ctypes.c_uint8 * 32),
+        ("row", ctypes.c_uint8 * 40),
+        ("openings", ctypes.c_uint8 * 64),
+        ("answer", ctypes.c_uint8 * 56),
+    ]
+
+
+class OrdersLane(ctypes.Structure):
+    """What a client keeps."""
+
+    _fields_ = [
+        ("client", ctypes.c_uint8 * 80),
+        ("lane", ctypes.c_uint8 * 104),
+        ("request", ctypes.c_uint8 * 112),
+    ]
+
+
+class OrdersLook(ctypes.Structure):
+    """What a server looks up for a request."""
+
+    _fields_ = [
+        ("kind", ctypes.c_uint32),
+        ("lane", ctypes.c_uint32),
+        ("since", ctypes.c_uint32),
+        ("knows", ctypes.c_uint32),
+    ]
+
+
 # Each function: its result, and its arguments.
 FUNCTIONS: dict[str, tuple[Any, list[Any]]] = {
     "dt_abi_version": (ctypes.c_uint32, []),
@@ -661,6 +714,48 @@ FUNCTIONS: dict[str, tuple[Any, list[Any]]] = {
     "dt_watch_shrink": (ctypes.c_uint8, [ctypes.c_void_p, ctypes.c_uint32]),
     "dt_watch_aim": (ctypes.c_uint64, [ctypes.c_uint64, ctypes.c_uint64, ctypes.c_uint64]),
     "dt_watch_cut": (ctypes.c_uint32, [ctypes.c_uint64, ctypes.c_uint64, ctypes.c_uint64]),
+    "dt_orders_open": (ctypes.c_uint8, [ctypes.POINTER(OrdersServer), ctypes.c_uint64]),
+    "dt_orders_look_up": (ctypes.c_uint8, [ctypes.c_void_p, ctypes.c_size_t, ctypes.POINTER(OrdersLook)]),
+    "dt_orders_judge": (
+        ctypes.c_uint8,
+        [
+            ctypes.POINTER(OrdersServer),
+            ctypes.c_void_p,
+            ctypes.c_size_t,
+            ctypes.c_bool,
+        ],
+    ),
+    "dt_orders_executed": (
+        ctypes.c_uint8,
+        [
+            ctypes.POINTER(OrdersServer),
+            ctypes.c_void_p,
+            ctypes.c_size_t,
+            ctypes.c_bool,
+            ctypes.c_bool,
+        ],
+    ),
+    "dt_orders_finish": (ctypes.c_uint8, [ctypes.POINTER(OrdersServer)]),
+    "dt_orders_forget": (ctypes.c_uint8, [ctypes.POINTER(OrdersServer)]),
+    "dt_orders_answer": (
+        ctypes.c_uint8,
+        [
+            ctypes.POINTER(OrdersServer),
+            ctypes.c_void_p,
+            ctypes.c_size_t,
+            ctypes.c_uint8,
+        ],
+    ),
+    "dt_orders_start": (ctypes.c_uint8, [ctypes.POINTER(OrdersLane), ctypes.c_uint64, ctypes.c_uint32, ctypes.c_bool]),
+    "dt_orders_give": (ctypes.c_uint8, [ctypes.POINTER(OrdersLane), ctypes.c_uint64, ctypes.c_uint64]),
+    "dt_orders_call": (ctypes.c_uint8, [ctypes.POINTER(OrdersLane), ctypes.c_uint64, ctypes.c_uint32]),
+    "dt_orders_ask": (ctypes.c_uint8, [ctypes.POINTER(OrdersLane), ctypes.c_void_p, ctypes.c_size_t, ctypes.c_uint32]),
+    "dt_orders_made": (ctypes.c_uint8, [ctypes.POINTER(OrdersLane), ctypes.c_bool]),
+    "dt_orders_unsure": (ctypes.c_uint8, [ctypes.POINTER(OrdersLane)]),
+    "dt_orders_hear": (ctypes.c_uint8, [ctypes.POINTER(OrdersLane), ctypes.c_void_p, ctypes.c_size_t, ctypes.c_uint64]),
+    "dt_orders_word": (ctypes.c_uint8, [ctypes.c_void_p, ctypes.c_size_t]),
+    "dt_orders_cancel": (ctypes.c_uint8, [ctypes.POINTER(OrdersLane)]),
+    "dt_orders_adopt": (ctypes.c_uint8, [ctypes.POINTER(OrdersLane)]),
 }
 
 Struct = TypeVar("Struct", bound=ctypes.Structure)

@@ -8,6 +8,7 @@ mod calls;
 mod drive_exports;
 mod flow_exports;
 mod networks;
+mod orders_exports;
 mod service_calls;
 mod service_events;
 mod service_exports;
@@ -24,6 +25,7 @@ pub use c_structs::{
     BlockedCounts, CFlow, CLink, CParams, CReport, CRoute, Datagram, FlowCounts, Message,
     NodeCounts, NodeOptions, OpenResult, ReadResult, ReceiveResult, SendResult,
 };
+pub use dt_orders_turns::{OrdersLane, OrdersLook, OrdersServer};
 pub use networks::CNetwork;
 pub use service_slots::{ServiceHandle, ServiceSlot};
 pub use service_structs::{CCallCounts, CToken, CallResult, Event, ReplyResult, ServiceOptions};

@@ -182,6 +182,40 @@ pub const DT_JUDGED_EARLY: u8 = 35;
 /// drop it
 pub const DT_JUDGED_OTHER_PARAMETERS: u8 = 36;
 
+// `enum dt_order`: what the functions of orders return beside DT_OK, DT_INVALID, DT_NONE
+/// it was executed exactly once, and the result is its own
+pub const DT_ORDER_DONE: u8 = 65;
+/// it was cancelled: it wasn't executed and never is
+pub const DT_ORDER_NEVER: u8 = 66;
+/// it was executed, and has no result yet
+pub const DT_ORDER_AT_WORK: u8 = 67;
+/// its handler failed: it wasn't executed now
+pub const DT_ORDER_NOT_NOW: u8 = 68;
+/// the server forgot what it would need to know
+pub const DT_ORDER_OLD: u8 = 69;
+/// its number was used
+pub const DT_ORDER_STALE: u8 = 70;
+/// its client knows of a commit that the store lost
+pub const DT_ORDER_FORKED: u8 = 71;
+/// its client must hear of the present opening first
+pub const DT_ORDER_HELLO: u8 = 72;
+/// a question is answered
+pub const DT_ORDER_TOLD: u8 = 73;
+/// run the handler
+pub const DT_ORDER_EXECUTE: u8 = 80;
+/// answer the question
+pub const DT_ORDER_READ: u8 = 81;
+/// it was executed once or not at all, and no call of it is any more
+pub const DT_ORDER_UNKNOWN: u8 = 82;
+/// the answer was used; call again
+pub const DT_ORDER_WAITS: u8 = 83;
+/// the answer is of another call; call again
+pub const DT_ORDER_STRANGE: u8 = 84;
+/// the answer says nothing; call again
+pub const DT_ORDER_UNSURE: u8 = 85;
+/// the server's store was set back: nothing is called until dt_orders_adopt
+pub const DT_ORDER_ALARM: u8 = 86;
+
 /// A status: one of the constants of `enum dt_status_code`.
 pub type dt_status = u8;
 
@@ -1058,6 +1092,98 @@ impl Default for dt_arrival {
     }
 }
 
+/// what a transaction of a server reads and writes
+#[repr(C)]
+#[derive(Clone, Copy, Debug, PartialEq, Eq, Hash)]
+pub struct dt_orders_server {
+    /// of the store: zeros before its first opening
+    pub numbers: [u8; 32],
+    /// of the request's lane; zeros: it has none
+    pub row: [u8; 40],
+    /// four of 16 octets each, zeros: none; dt_orders_open writes the first
+    pub openings: [u8; 64],
+    /// what dt_orders_answer wrote
+    pub answer: [u8; 56],
+}
+
+impl dt_orders_server {
+    /// All fields 0.
+    pub const fn new() -> Self {
+        Self {
+            numbers: [0; 32],
+            row: [0; 40],
+            openings: [0; 64],
+            answer: [0; 56],
+        }
+    }
+}
+
+impl Default for dt_orders_server {
+    fn default() -> Self {
+        Self::new()
+    }
+}
+
+/// what a client keeps
+#[repr(C)]
+#[derive(Clone, Copy, Debug, PartialEq, Eq, Hash)]
+pub struct dt_orders_lane {
+    /// what it knows of its server, which its lanes share; zeros at first
+    pub client: [u8; 80],
+    /// zeros at first
+    pub lane: [u8; 104],
+    /// what was called last on this lane
+    pub request: [u8; 112],
+}
+
+impl dt_orders_lane {
+    /// All fields 0.
+    pub const fn new() -> Self {
+        Self {
+            client: [0; 80],
+            lane: [0; 104],
+            request: [0; 112],
+        }
+    }
+}
+
+impl Default for dt_orders_lane {
+    fn default() -> Self {
+        Self::new()
+    }
+}
+
+/// what a server looks up for a request
+#[repr(C)]
+#[derive(Clone, Copy, Debug, PartialEq, Eq, Hash)]
+pub struct dt_orders_look {
+    /// 1 an order, 2 a cancel, 3 a question
+    pub kind: u32,
+    /// the client's lane
+    pub lane: u32,
+    /// numbers of two openings of the store: 0 is the first one
+    pub since: u32,
+    pub knows: u32,
+}
+
+impl dt_orders_look {
+    /// All fields 0.
+    pub const fn new() -> Self {
+        Self {
+            kind: 0,
+            lane: 0,
+            since: 0,
+            knows: 0,
+        }
+    }
+}
+
+impl Default for dt_orders_look {
+    fn default() -> Self {
+        Self::new()
+    }
+}
+
 extern "C" {
     /// Returns the interface version of the library. Compare it with DT_ABI_VERSION first.
     pub fn dt_abi_version() -> u32;
@@ -1593,4 +1719,149 @@ extern "C" {
     /// Returns by how many thousandths a window shrinks after a round whose delay in queues was above `aim`: 80 to
     /// 500. 0 if it wasn't, or an argument is 2^50 or more.
     pub fn dt_watch_cut(queue: u64, base: u64, aim: u64) -> u32;
+
+    /// Opens a server's store: `numbers` become those of the new opening, and the first 16 octets of `openings` are
+    /// the opening. `nonce`: 64 drawn bits. The opening's number is the big-endian number in `numbers` from octet
+    /// 16 on.
+    ///
+    /// - `DT_OK`
+    /// - `DT_INVALID`
+    pub fn dt_orders_open(server: *mut dt_orders_server, nonce: u64) -> dt_status;
+
+    /// Gets what a server looks up for a request: the 112 octets before its body.
+    ///
+    /// - `DT_OK`
+    /// - `DT_INVALID`: they spell no request
+    pub fn dt_orders_look_up(
+        request: *const u8,
+        len: usize,
+        look: *mut dt_orders_look,
+    ) -> dt_status;
+
+    /// Judges a request, and writes what needs no handler: a cancelled order, or a row's stamp. Returns an enum
+    /// dt_order, up to DT_ORDER_READ, or DT_INVALID. `strict`: a client must know the present opening; so it must
+    /// be if the store may be set back and the transport may deliver an old call.
+    pub fn dt_orders_judge(
+        server: *mut dt_orders_server,
+        request: *const u8,
+        len: usize,
+        strict: bool,
+    ) -> dt_status;
+
+    /// Writes the row of an order that the handler executed, `done` or at work.
+    ///
+    /// - `DT_OK`
+    /// - `DT_NONE`: dt_orders_judge doesn't say DT_ORDER_EXECUTE of it
+    /// - `DT_INVALID`
+    pub fn dt_orders_executed(
+        server: *mut dt_orders_server,
+        request: *const u8,
+        len: usize,
+        strict: bool,
+        done: bool,
+    ) -> dt_status;
+
+    /// Writes that the row's order, which was at work, has its result.
+    ///
+    /// - `DT_OK`
+    /// - `DT_NONE`: it isn't at work
+    /// - `DT_INVALID`
+    pub fn dt_orders_finish(server: *mut dt_orders_server) -> dt_status;
+
+    /// Forgets the row: it is zeros then, and you delete it.
+    ///
+    /// - `DT_OK`
+    /// - `DT_NONE`: there is none, or its order is at work
+    /// - `DT_INVALID`
+    pub fn dt_orders_forget(server: *mut dt_orders_server) -> dt_status;
+
+    /// Writes the answer to a request: DT_ORDER_DONE to DT_ORDER_TOLD.
+    ///
+    /// - `DT_OK`
+    /// - `DT_INVALID`
+    pub fn dt_orders_answer(
+        server: *mut dt_orders_server,
+        request: *const u8,
+        len: usize,
+        said: u8,
+    ) -> dt_status;
+
+    /// A new opening of a client's store, with 64 drawn bits, for a lane of this number: called for each lane, with
+    /// the same nonce. `once`: the transport delivers each call once at most.
+    ///
+    /// - `DT_OK`
+    /// - `DT_INVALID`
+    pub fn dt_orders_start(
+        lane: *mut dt_orders_lane,
+        nonce: u64,
+        number: u32,
+        once: bool,
+    ) -> dt_status;
+
+    /// Notes an order on the lane: `uid` is your name for it, `record` the record that you store it in.
+    ///
+    /// - `DT_OK`
+    /// - `DT_NONE`: the lane has one, or the client never heard of its server or had an alarm
+    /// - `DT_INVALID`
+    pub fn dt_orders_give(lane: *mut dt_orders_lane, uid: u64, record: u64) -> dt_status;
+
+    /// Writes the request of the lane's order. `stored`: the last record that is synced. `count`: another number
+    /// for each call and question since dt_orders_start.
+    ///
+    /// - `DT_OK`
+    /// - `DT_NONE`: there is nothing to call: no order, not stored, a call waits, or an alarm
+    /// - `DT_INVALID`
+    pub fn dt_orders_call(lane: *mut dt_orders_lane, stored: u64, count: u32) -> dt_status;
+
+    /// Writes the request of a question. If `len` is 0 it carries what the client knows; else what this answer
+    /// named, and the server says DT_ORDER_FORKED exactly if its store lost that. Use a struct of its own for
+    /// questions, and copy `client` back.
+    ///
+    /// - `DT_OK`
+    /// - `DT_INVALID`
+    pub fn dt_orders_ask(
+        lane: *mut dt_orders_lane,
+        answer: *const u8,
+        len: usize,
+        count: u32,
+    ) -> dt_status;
+
+    /// The request was sent, or may have been (`sent`), or certainly wasn't.
+    ///
+    /// - `DT_OK`
+    /// - `DT_INVALID`
+    pub fn dt_orders_made(lane: *mut dt_orders_lane, sent: bool) -> dt_status;
+
+    /// The call ended without an answer.
+    ///
+    /// - `DT_OK`
+    /// - `DT_INVALID`
+    pub fn dt_orders_unsure(lane: *mut dt_orders_lane) -> dt_status;
+
+    /// Takes the answer to the request: the 56 octets before its result. Returns a fate (DT_ORDER_DONE, NEVER or
+    /// UNKNOWN), DT_ORDER_WAITS to DT_ORDER_ALARM, or DT_INVALID. Store the lane under `record` if it changed,
+    /// before you call again.
+    pub fn dt_orders_hear(
+        lane: *mut dt_orders_lane,
+        answer: *const u8,
+        len: usize,
+        record: u64,
+    ) -> dt_status;
+
+    /// Returns what an answer says, DT_ORDER_DONE to DT_ORDER_TOLD, or DT_INVALID.
+    pub fn dt_orders_word(answer: *const u8, len: usize) -> dt_status;
+
+    /// Cancels the lane's order. Returns
+    ///
+    /// - `DT_ORDER_NEVER`: it was never called: that is its fate
+    /// - `DT_OK`: it is asked about from now on: its fate is an answer's
+    /// - `DT_NONE`: the lane has no order
+    /// - `DT_INVALID`
+    pub fn dt_orders_cancel(lane: *mut dt_orders_lane) -> dt_status;
+
+    /// Goes on after an alarm, when all fates before it are stored and reported. Store `client`.
+    ///
+    /// - `DT_OK`
+    /// - `DT_INVALID`
+    pub fn dt_orders_adopt(lane: *mut dt_orders_lane) -> dt_status;
 }
