@@ -9,7 +9,7 @@
 #include <string.h>
 #include <time.h>
 
-enum { LINK = 1, CHARGE = 294, TURNS = 200, TIMEOUT = 3600000, MOST_LIVE = 4096, MOST_CHUNK = 65536 };
+enum { LINK = 1, CHARGE = 294, TURNS = 200, TIMEOUT = 3600000, MOST_LIVE = 4096, MOST_CHUNK = 65536, MORE_LINKS = 64 };
 static const struct dt_params RULES = {
     .size = sizeof RULES, .mpl = 482, .r = 450, .a = 5, .rto = 90, .probe = 180, .seg = 1442,
     .cap = 65536, .rcap = 65536, .window = 65536, .run_limit = 2147483648u};
@@ -336,25 +336,29 @@ static void row_release(long n) {
     dt_node_free(it.b);
 }
 
-/* the heap that a link of a node takes, where segments have at most n octets; with and without a pace */
+/* the heap that a node with so many links takes, where segments have at most n octets */
+static long held(long n, size_t links, uint32_t pace) {
+    struct dt_params rules = RULES;
+    rules.seg = (uint32_t)n;
+    struct dt_link link[1 + MORE_LINKS];
+    for (size_t i = 0; i < links; i++)
+        link[i] = (struct dt_link){.charge = CHARGE, .pace = pace, .number = (uint16_t)(LINK + i)};
+    struct dt_node_options said = {.size = sizeof said, .node = 1, .now = 1000, .links = link, .link_count = links,
+                                   .start_as = DT_START_FIRST};
+    dt_node *it = owned(dt_node_new());
+    struct mallinfo2 before = mallinfo2();
+    must("dt_node_open", dt_node_open(it, &rules, &said).status);
+    struct mallinfo2 after = mallinfo2();
+    dt_node_free(it);
+    return (long)(after.uordblks + after.hblkhd) - (long)(before.uordblks + before.hblkhd);
+}
+
+/* the heap that each further link takes, with and without a pace: the mean of many, since what malloc keeps of freed
+ * blocks counts as held */
 static void row_link(long n) {
     for (uint32_t pace = 0; pace < 2; pace++) {
-        size_t used[2];
-        for (size_t links = 1; links < 3; links++) {
-            struct dt_params rules = RULES;
-            rules.seg = (uint32_t)n;
-            struct dt_link link[2] = {{.charge = CHARGE, .pace = pace, .number = LINK},
-                                      {.charge = CHARGE, .pace = pace, .number = 2}};
-            struct dt_node_options said = {.size = sizeof said, .node = 1, .now = 1000, .links = link,
-                                           .link_count = links, .start_as = DT_START_FIRST};
-            dt_node *it = owned(dt_node_new());
-            struct mallinfo2 before = mallinfo2();
-            must("dt_node_open", dt_node_open(it, &rules, &said).status);
-            struct mallinfo2 after = mallinfo2();
-            used[links - 1] = (after.uordblks + after.hblkhd) - (before.uordblks + before.hblkhd);
-            dt_node_free(it);
-        }
-        printf("%s %zu octets\n", pace ? "with-a-pace" : "without-a-pace", used[1] - used[0]);
+        long one = held(n, 1, pace), all = held(n, 1 + MORE_LINKS, pace);
+        printf("%s %ld octets\n", pace ? "with-a-pace" : "without-a-pace", (all - one) / MORE_LINKS);
     }
 }
 

@@ -26,7 +26,7 @@ TOP = pathlib.Path(__file__).resolve().parent.parent
 # the rows that grow, and the N of the others
 GROWING = ("calls", "untaken", "answers", "ports", "unfinished", "release")
 SIZES = (1, 1_000, 10_000, 50_000)
-OTHERS = {"link": (64, 1442), "lossy": (1, 32), "transfer": (10, 50, 150), "window": (60_000, 65_532)}
+OTHERS = {"link": (64, 500, 1_500, 8_186), "lossy": (1, 32), "transfer": (10, 50, 150), "window": (60_000, 65_532)}
 # seconds that one row may take
 LIMIT = 900
 Figures = dict[str, tuple[float, str]]

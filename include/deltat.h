@@ -365,7 +365,7 @@ void dt_node_free(dt_node *node);
  *   DT_EXISTS     the handle is open; nothing changed
  *   DT_INVALID    a size, `start_as` or a reserved field is wrong (`field` is 0), or a parameter is
  *                 out of range (`field`, `value`: the first such); nothing changed
- * Cost: each link reserves room for 64 of the longest datagrams, about 526,000 octets. */
+ * Cost: each link with a pace reserves room for 64 datagrams of `seg` and 30 octets. */
 struct dt_open_result dt_node_open(dt_node *node, const struct dt_params *params,
                                    const struct dt_node_options *options);
 

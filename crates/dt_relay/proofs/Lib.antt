@@ -1,4 +1,5 @@
 pub mod Causes
+pub mod Entering
 pub mod Links
 pub mod Lookups
 pub mod Straight

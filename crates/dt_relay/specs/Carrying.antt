@@ -10,18 +10,18 @@ module _ {P T : Type 0} (octets : P → List ℕ) (label : P → T) where
   abbrev pub parcel_seen : P → Parcel T
   parcel_seen p = record { octets = octets p; tag = label p }
 
-  abbrev pub waiting_seen : Waiting P → WaitingParcel T
-  waiting_seen w = record { parcel = parcel_seen w.packet; since = w.since }
-
   -- what came of the first that waited
   abbrev pub left_seen : Option (Left P) → Option (LeftParcel T)
   left_seen None = None
   left_seen (Some (left.Out p)) = Some (Goes (parcel_seen p))
   left_seen (Some left.Expired) = Some ExpiredParcel
 
+abbrev pub waiting_seen : {T : Type 0} → Waiting T → WaitingParcel T
+waiting_seen w = record { parcel = record { octets = w.octets.items; tag = w.tag }; since = w.since }
+
 -- the octets of a packet that waits read as a Deltagram
-abbrev pub WaitsAsGram : {P : Type 0} → (P → List ℕ) → Waiting P → Type 0
-WaitsAsGram octets w = IsGram (octets w.packet)
+abbrev pub WaitsAsGram : {T : Type 0} → Waiting T → Type 0
+WaitsAsGram w = IsGram w.octets.items
 
 -- what holds of a packet that left
 abbrev pub IfOut : {P : Type 0} → Option (Left P) → (P → Type 0) → Type 0

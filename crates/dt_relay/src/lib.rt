@@ -1,6 +1,7 @@
 //! Packets that wait for their link, and what they pay with their life.
 #![tactic(auto)]
 
+mod buffers;
 mod carrying;
 mod first_places;
 mod passages;

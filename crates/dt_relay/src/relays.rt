@@ -25,7 +25,9 @@ use std::marker::Model;
 /// on which they come, and routes.
 ///
 /// Moments are readings of the station's clock in milliseconds, at most 2^62, and lives, charges and
-/// paces are milliseconds. The memory is taken by [`Relay::new`], and no other call takes any.
+/// paces are milliseconds. The memory is taken by [`Relay::new`]. Beside it [`Relay::enter`] takes some
+/// for a frame that is longer than was said then, or that waits on a link without a pace, and
+/// [`Relay::add_route`] for a route.
 #[derive(Drop)]
 pub struct Relay<P: Carry> {
     outs: Vec<LinkQueue<P>>,
@@ -51,14 +53,16 @@ impl<P: Carry> Model for Relay<P> {
 }
 
 impl<P: Carry> Relay<P> {
-    /// A relay on which nothing waits, and which nothing has left. Takes the room for 64 packets for
-    /// each out link at once; `NoMemory` where there is none.
+    /// A relay on which nothing waits, and which nothing has left. For each out link with a pace it takes
+    /// the room for 64 packets at once, of `longest` octets each; `NoMemory` where there is none. A link
+    /// without a pace takes no such room: while moments don't go back, nothing waits on it.
     ///
     /// Links of a list differ, and so do the nodes of routes, and each route's link is among `outs`.
     /// Of entries that don't differ the first counts, and a route to a link that isn't there counts as
     /// none.
     pub fn new(
         alloc: Global,
+        longest: usize,
         outs: &[OutLink],
         ins: &[InLink],
         routes: &[Route],
@@ -68,7 +72,7 @@ impl<P: Carry> Relay<P> {
         let out_places = places_in(alloc, outs)?;
         let firsts = firsts_of(alloc, outs, &out_places)?;
         Ok(Relay {
-            outs: empty_queues(alloc, outs)?,
+            outs: empty_queues(alloc, outs, longest)?,
             ins: Vec::from_slice(alloc, ins)?,
             routes: Vec::from_slice(alloc, routes)?,
             out_places,
@@ -121,20 +125,24 @@ impl<P: Carry> Relay<P> {
     ///   changes.
     /// - `Queued`: it waits at the end of that link's queue.
     ///
-    /// Its cost is that of two look-ups and of moving the packet, which isn't cloned.
-    pub fn enter(&mut self, packet: P, now: u64) -> Entered
+    /// `NoMemory` where its frame is longer than [`Relay::new`] was told, or the link has no pace, and there
+    /// is no room for it. It is dropped, and nothing changes.
+    ///
+    /// Its cost is that of two look-ups and of copying the frame's octets.
+    pub fn enter(&mut self, packet: P, now: u64) -> Result<Entered, NoMemory>
         requires { IsGram (P.octets packet) }
-        ensures answer { result ≡ (enter (parcel_seen P.octets P.label packet) now self.old).0 }
-        ensures after { self.new ≡ (enter (parcel_seen P.octets P.label packet) now self.old).1 }
+        ensures answer { IfOk result (λ entered. entered ≡ (enter (parcel_seen P.octets P.label packet) now self.old).0) }
+        ensures after { OnOk result (self.new ≡ (enter (parcel_seen P.octets P.label packet) now self.old).1) }
+        ensures same { OnErr result (self.new ≡ self.old) }
         // Which answer comes, and where: each cause exactly.
-        ensures cause { let to = to_of (P.octets packet) in result ≡ entered_by to (way_to to self.old) }
-        ensures stays { StaysUnlessQueued result self.old self.new }
+        ensures cause { let to = to_of (P.octets packet) in IfOk result (λ entered. entered ≡ entered_by to (way_to to self.old)) }
+        ensures stays { IfOk result (λ entered. StaysUnlessQueued entered self.old self.new) }
     {
         let to = packet.to();
         match self.route(to) {
-            None => Entered::NoRoute { to },
+            None => Ok(Entered::NoRoute { to }),
             Some(link) => match self.place(link) {
-                None => Entered::NoRoute { to },
+                None => Ok(Entered::NoRoute { to }),
                 Some(i) => {
                     let queue = &mut self.outs[i];
                     queue.enter(packet, now)
@@ -323,12 +331,16 @@ impl<P: Carry> Relay<P> {
 }
 
 // A queue on which nothing waits for each out link.
-fn empty_queues<P: Carry>(alloc: Global, outs: &[OutLink]) -> Result<Vec<LinkQueue<P>>, NoMemory>
+fn empty_queues<P: Carry>(
+    alloc: Global,
+    outs: &[OutLink],
+    longest: usize,
+) -> Result<Vec<LinkQueue<P>>, NoMemory>
     ensures { IfOk result (λ queues. queues.items ≡ map (λ o. empty_out o.link o.pace) outs.now) }
 {
     let mut queues = Vec::with_capacity(alloc, outs.len())?;
     for out in outs {
-        queues.push(LinkQueue::new(alloc, out.link, out.pace)?)?;
+        queues.push(LinkQueue::new(alloc, out.link, out.pace, longest)?)?;
     }
     Ok(queues)
 }

@@ -52,8 +52,8 @@ pub(crate) fn pass_on<P: Carry, V: Visitor<P>>(
     }
 }
 
-/// A packet is made of the frame, and enters the relay. It stands apart, so that only where a packet
-/// has to wait it is among the locals.
+/// A packet is made of the frame, and enters the relay, which may find no memory for it. It stands apart, so
+/// that only where a packet has to wait it is among the locals.
 #[inline(never)]
 fn wait<P: Carry, V: Visitor<P>>(
     relay: &mut Relay<P>,
@@ -66,7 +66,7 @@ fn wait<P: Carry, V: Visitor<P>>(
     ensures ends { Concludes V.tells (V.tags now.ms) V.hands V.fails result (pass_on (record { octets = frame.now; tag = tag }) now.ms relay.old) visitor.old visitor.new relay.new }
     ensures others { relay.new ≡ with_outs relay.old relay.new.outs }
 {
-    let entered = relay.enter(P::make(frame, tag), now.ms);
+    let entered = relay.enter(P::make(frame, tag), now.ms)?;
     flush_entered(relay, entered, now, visitor)
 }
 

@@ -19,6 +19,7 @@ use crate::visitor::Visitor;
 use dt_host::Host;
 use dt_items::{MarkedOctets, NoMemory};
 use dt_layout::Frame;
+use dt_layout::limits::{HEADER, PACKET_HEADER};
 use dt_relay::{Carry, InLink, OutLink, Reading, Relay, Route};
 use dt_units::{NodeId, Rules, earlier};
 use std::alloc::Global;
@@ -60,8 +61,8 @@ impl<P: Carry> Model for Station<P> {
 impl<P: Carry> Station<P> {
     /// The station of a node that starts for the first time, or again at the moment `again`: its host
     /// is that of [`Host::first`] or [`Host::restarted`], and its relay that of [`Relay::new`], over
-    /// these links and routes. It takes the room for what may wait at once; `NoMemory` where there is
-    /// none.
+    /// these links and routes. For each link with a pace it takes the room for 64 frames with the longest
+    /// segment at once; `NoMemory` where there is none.
     pub fn new(
         alloc: Global,
         rules: &Rules,
@@ -75,7 +76,7 @@ impl<P: Carry> Station<P> {
         ensures { IfOk result (λ station. station ≡ station_started rules.now me.0 again outs.now ins.now routes.now) }
     {
         let host = start_host(alloc, rules, me, Start { again })?;
-        let relay = start_relay(alloc, outs, ins, routes)?;
+        let relay = start_relay(alloc, longest_frame(rules), outs, ins, routes)?;
         let latest = Reading {
             ms: again.unwrap_or(0),
         };
@@ -274,14 +275,20 @@ fn start_host(alloc: Global, rules: &Rules, me: NodeId, start: Start) -> Result<
     Ok(Box::new(alloc, host?)?)
 }
 
+/// The octets of a frame with the longest segment.
+fn longest_frame(rules: &Rules) -> usize {
+    HEADER + PACKET_HEADER + rules.params().seg as usize
+}
+
 /// The relay of [`Relay::new`].
 fn start_relay<P: Carry>(
     alloc: Global,
+    longest: usize,
     outs: &[OutLink],
     ins: &[InLink],
     routes: &[Route],
 ) -> Result<Box<Relay<P>>, NoMemory>
     ensures { IfOk result (λ relay. relay.value ≡ new_relay outs.now ins.now routes.now) }
 {
-    Ok(Box::new(alloc, Relay::new(alloc, outs, ins, routes)?)?)
+    Ok(Box::new(alloc, Relay::new(alloc, longest, outs, ins, routes)?)?)
 }

@@ -49,11 +49,12 @@ impl Model for Bench {
 impl Bench {
     pub fn new(
         alloc: Global,
+        longest: usize,
         outs: &[OutLink],
         ins: &[InLink],
         routes: &[Route],
     ) -> Result<Bench, NoMemory> {
-        let relay = Relay::new(alloc, outs, ins, routes)?;
+        let relay = Relay::new(alloc, longest, outs, ins, routes)?;
         Ok(Bench { relay, now: 0 })
     }
 
@@ -73,7 +74,7 @@ impl Bench {
     }
 
     fn enters(&mut self, rt: &impl Abort, life: u32, to: u32, wanted: Entered) -> bool {
-        self.relay.enter(rendezvous(rt, life, to), self.now) == wanted
+        self.relay.enter(rendezvous(rt, life, to), self.now).ok() == Some(wanted)
     }
 
     /// All that leaves goes to node 2.

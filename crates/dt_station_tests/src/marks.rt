@@ -61,8 +61,8 @@ fn is_kept(rt: &impl Abort, relay: &mut Relay<Marked>) -> bool {
     let marked = Marked::make(&rendezvous(rt, 999, 2), 77);
     match relay.admit(9, marked) {
         Some(admitted) => {
-            let _entered = relay.enter(admitted, 0);
-            leaves_marked(rt, relay)
+            let entered = relay.enter(admitted, 0).is_ok();
+            entered && leaves_marked(rt, relay)
         }
         None => false,
     }
@@ -70,7 +70,7 @@ fn is_kept(rt: &impl Abort, relay: &mut Relay<Marked>) -> bool {
 
 #[test]
 fn a_mark_stays_on_its_packet(rt: HostRuntime) -> Result<(), NoMemory> {
-    let mut relay = Relay::<Marked>::new(rt.alloc(), &OUTS, &INS, &ROUTES)?;
+    let mut relay = Relay::<Marked>::new(rt.alloc(), 0, &OUTS, &INS, &ROUTES)?;
     assert!(rt; is_kept(&rt, &mut relay));
     Ok(())
 }

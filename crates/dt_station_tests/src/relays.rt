@@ -14,9 +14,18 @@ fn are_done(rt: &impl Abort, bench: &mut Bench, steps: &[Step]) {
     }
 }
 
-/// Each step of a relay with these links is as it says.
-fn goes(rt: &impl Abort, alloc: Global, outs: &[OutLink], steps: &[Step]) -> Result<(), NoMemory> {
-    let mut bench = Bench::new(alloc, outs, &INS, &ROUTES)?;
+/// The octets of each packet here.
+const PACKET: usize = 30;
+
+/// Each step of a relay with these links is as it says, where frames mostly have so many octets.
+fn goes(
+    rt: &impl Abort,
+    alloc: Global,
+    longest: usize,
+    outs: &[OutLink],
+    steps: &[Step],
+) -> Result<(), NoMemory> {
+    let mut bench = Bench::new(alloc, longest, outs, &INS, &ROUTES)?;
     are_done(rt, &mut bench, steps);
     Ok(())
 }
@@ -61,7 +70,7 @@ static STEPS: [Step; 31] = [
 
 #[test]
 fn packets_pay_and_wait(rt: HostRuntime) -> Result<(), NoMemory> {
-    goes(&rt, rt.alloc(), &OUTS, &STEPS)
+    goes(&rt, rt.alloc(), PACKET, &OUTS, &STEPS)
 }
 
 const GOES_ON: Passage = Passage::Leaves { link: 5 };
@@ -91,7 +100,7 @@ static STRAIGHT_STEPS: [Step; 16] = [
 
 #[test]
 fn what_needs_not_wait_goes_straight_on(rt: HostRuntime) -> Result<(), NoMemory> {
-    goes(&rt, rt.alloc(), &OUTS_AGAIN, &STRAIGHT_STEPS)
+    goes(&rt, rt.alloc(), PACKET, &OUTS_AGAIN, &STRAIGHT_STEPS)
 }
 
 /// One leaves, and so the next have to wait. Then 64 wait, and no more can.
@@ -111,7 +120,13 @@ static FULL_STEPS: [Step; 11] = [
 
 #[test]
 fn sixty_four_wait_and_no_more(rt: HostRuntime) -> Result<(), NoMemory> {
-    goes(&rt, rt.alloc(), &OUTS, &FULL_STEPS)
+    goes(&rt, rt.alloc(), PACKET, &OUTS, &FULL_STEPS)
+}
+
+/// So it is for frames that are longer than was said.
+#[test]
+fn longer_frames_wait_as_well(rt: HostRuntime) -> Result<(), NoMemory> {
+    goes(&rt, rt.alloc(), PACKET - 1, &OUTS, &FULL_STEPS)
 }
 
 /// The places of the links, and no more.
@@ -123,5 +138,5 @@ static PLACES: [Step; 3] = [
 
 #[test]
 fn links_stand_in_the_order_of_outs(rt: HostRuntime) -> Result<(), NoMemory> {
-    goes(&rt, rt.alloc(), &OUTS, &PLACES)
+    goes(&rt, rt.alloc(), PACKET, &OUTS, &PLACES)
 }

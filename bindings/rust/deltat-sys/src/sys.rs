@@ -1211,7 +1211,7 @@ extern "C" {
     /// - `DT_INVALID`: a size, `start_as` or a reserved field is wrong (`field` is 0), or a parameter is out of
     ///   range (`field`, `value`: the first such); nothing changed
     ///
-    /// Cost: each link reserves room for 64 of the longest datagrams, about 526,000 octets.
+    /// Cost: each link with a pace reserves room for 64 datagrams of `seg` and 30 octets.
     pub fn dt_node_open(
         node: *mut dt_node,
         params: *const dt_params,

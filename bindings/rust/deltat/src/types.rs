@@ -160,7 +160,7 @@ pub struct NodeOptions<'a> {
     pub node: u32,
     /// The time in ms.
     pub now: u64,
-    /// Its links. Each reserves room for 64 of the longest datagrams, about 526,000 octets.
+    /// Its links. Each with a pace reserves room for 64 datagrams of `seg` and 30 octets.
     pub links: &'a [Link],
     /// Its routes. Others can be added later.
     pub routes: &'a [Route],
