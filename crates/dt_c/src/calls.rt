@@ -70,7 +70,7 @@ impl Slot {
                     datagram,
                     waited,
                 };
-                receive_result(arrive(endpoint, &mut self.shelf, &arrival))
+                receive_result(arrive(endpoint, &mut self.shelf, arrival))
             }
             Admission::ClosedPort | Admission::TooManyFlows => received_as(BLOCKED),
         }
@@ -298,9 +298,9 @@ pub fn set_shelf(shelf: &mut Option<EarlyShelf>, alloc: Global, most: u32, of_fl
 fn arrive(
     endpoint: &mut Endpoint,
     shelf: &mut Option<EarlyShelf>,
-    arrival: &Arrival<'_>,
+    arrival: Arrival<'_>,
 ) -> Received
-    ensures { let a = arrival.now in ArrivesBehind result a.now a.link a.datagram.now a.waited shelf.old endpoint.old shelf.new endpoint.new }
+    ensures { let a = arrival.entry in ArrivesBehind result a.now a.link a.datagram.now a.waited shelf.old endpoint.old shelf.new endpoint.new }
 {
     match shelf {
         Some(shelf) => shelf.arrive(endpoint, arrival),

@@ -135,7 +135,7 @@ impl ServiceSlot {
                     datagram,
                     waited,
                 };
-                receive_result(serve(service, &mut self.shelf, &arrival))
+                receive_result(serve(service, &mut self.shelf, arrival))
             }
             Admission::ClosedPort | Admission::TooManyFlows => received_as(BLOCKED),
         }
@@ -262,9 +262,9 @@ impl ServiceSlot {
 fn serve(
     service: &mut Service,
     shelf: &mut Option<EarlyShelf>,
-    arrival: &Arrival<'_>,
+    arrival: Arrival<'_>,
 ) -> Received
-    ensures { let a = arrival.now in ServesBehind result a.now a.link a.datagram.now a.waited shelf.old service.old shelf.new service.new }
+    ensures { let a = arrival.entry in ServesBehind result a.now a.link a.datagram.now a.waited shelf.old service.old shelf.new service.new }
 {
     match shelf {
         Some(shelf) => shelf.serve(service, arrival),

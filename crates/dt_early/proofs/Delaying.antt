@@ -28,23 +28,23 @@ last_one h [] = here
 last_one h (x ∷ hs) = there (last_one h hs)
 
 module _ {V : Type 0} where
-  pub framed : (cs : List (Call {V = V})) (hs left more : List Early) → Delays cs hs left → Delays cs (hs ++ more) (left ++ more)
+  pub framed : (cs : List (Call V)) (hs left more : List Early) → Delays cs hs left → Delays cs (hs ++ more) (left ++ more)
   framed [] hs hs more stays = stays
   framed (c ∷ cs) hs left more (hands {rest = rest} h one over then) = hands h (one_framed h hs rest more one) over (framed cs rest left more then)
   framed cs hs left more (loses {rest = rest} h one then) = loses h (one_framed h hs rest more one) (framed cs rest left more then)
 
-  pub joined : (cs ds : List (Call {V = V})) (hs between left : List Early) → Delays cs hs between → Delays ds between left → Delays (cs ++ ds) hs left
+  pub joined : (cs ds : List (Call V)) (hs between left : List Early) → Delays cs hs between → Delays ds between left → Delays (cs ++ ds) hs left
   joined [] ds hs hs left stays then = then
   joined (c ∷ cs) ds hs between left (hands {rest = rest} h one over on) then = hands h one over (joined cs ds rest between left on then)
   joined cs ds hs between left (loses {rest = rest} h one on) then = loses h one (joined cs ds rest between left on then)
 
-  consed : (x : Early) (cs : List (Call {V = V})) (hs left : List Early) → Delays cs hs left → Delays cs (x ∷ hs) (x ∷ left)
+  consed : (x : Early) (cs : List (Call V)) (hs left : List Early) → Delays cs hs left → Delays cs (x ∷ hs) (x ∷ left)
   consed x [] hs hs stays = stays
   consed x (c ∷ cs) hs left (hands {rest = rest} h one over then) = hands h (there one) over (consed x cs rest left then)
   consed x cs hs left (loses {rest = rest} h one then) = loses h (there one) (consed x cs rest left then)
 
   -- what has no life left is lost
-  pub sifted : (test : Early → Bool) (hs : List Early) → Delays ([] {A = Call {V = V}}) hs (filter test hs)
+  pub sifted : (test : Early → Bool) (hs : List Early) → Delays ([] {A = Call V}) hs (filter test hs)
   sifted test [] = stays
   sifted test (x ∷ hs) =
       elim (cases_Bool (test x)) [
@@ -54,9 +54,9 @@ module _ {V : Type 0} where
 
   module _ (host : V → Host) (arrives : Received → (now link : ℕ) → List ℕ → (waited : ℕ) → V → V → Type 0) where
     abbrev Goes : List Early → V → List Early → V → Type 0
-    Goes hs v left w = (calls : List Call) × AreCalls arrives calls v w × Delays calls hs left
+    Goes hs v left w = (calls : List (Call V)) × AreCalls arrives calls v w × Delays calls hs left
 
-    call_of : (now : ℕ) (h : Early) (answer : Received) (after : V) → Call
+    call_of : (now : ℕ) (h : Early) (answer : Received) (after : V) → Call V
     call_of now h answer after = record { now = now; link = h.link; octets = h.octets; waited = waited_by now h; answer = answer; after = after }
 
     round : (now : ℕ) (h : Early) (answer : Received) (v mid w : V) (hs rest left : List Early) → IsOneOf h hs rest → arrives answer now h.link h.octets (waited_by now h) v mid → Goes rest mid left w → Goes hs v left w
@@ -71,7 +71,7 @@ module _ {V : Type 0} where
         let test = is_ready (expected_at (host v) flow) now flow in
         round now h arrived.NoMemory v w w s.held (pick test s.held).1 t.held (picked_one test s.held h is) does ([], refl, stays)
 
-    replayed_for : (data : Option DataValue) (now : ℕ) (first last : Received) (s : EarlyShelf) (v : V) (t : EarlyShelf) (w : V) → ReplaysFor host arrives data now first last s v t w → Goes s.held v t.held w
+    replayed_for : (brought : Option DataValue) (now : ℕ) (first last : Received) (s : EarlyShelf) (v : V) (t : EarlyShelf) (w : V) → ReplaysFor host arrives brought now first last s v t w → Goes s.held v t.held w
     replayed_for None now first last s v t w (_, same, after) = rw (same, after) ([], refl, stays)
     replayed_for (Some d) now first last s v t w on = replayed now d.flow first last s v t w on
 
@@ -82,11 +82,11 @@ module _ {V : Type 0} where
     no_flow : Flow
     no_flow = record { from = node 0; from_port = 0; to = node 0; to_port = 0 }
 
-    handed : (data : Option DataValue) (answer : Received) (now link : ℕ) (octets : List ℕ) (waited : ℕ) (s : EarlyShelf) (v : V) (t : EarlyShelf) (w : V) → HandsIn host arrives data answer now link octets waited (aged now s) v t w → IsDelay arrives now link octets waited s v t w
-    handed data answer now link octets waited s v t w (first, mid, does, on) =
+    handed : (brought : Option DataValue) (answer : Received) (now link : ℕ) (octets : List ℕ) (waited : ℕ) (s : EarlyShelf) (v : V) (t : EarlyShelf) (w : V) → HandsIn host arrives brought answer now link octets waited (aged now s) v t w → IsDelay arrives now link octets waited s v t w
+    handed brought answer now link octets waited s v t w (first, mid, does, on) =
         let came = came_so now link octets waited no_flow in
-        let then = replayed_for data now first answer (aged now s) mid t w on in
-        let call = record { now = now; link = link; octets = octets; waited = waited; answer = first; after = mid } in
+        let then = replayed_for brought now first answer (aged now s) mid t w on in
+        let call : Call V = record { now = now; link = link; octets = octets; waited = waited; answer = first; after = mid } in
         (came, record { since = refl; link = refl; octets = refl; waited = refl }, (call ∷ then.0, (does, then.1.0), hands came (last_one came s.held) (refl, refl, inl (refl, refl)) (joined [] then.0 s.held (filter (is_alive now) s.held) t.held (sifted (is_alive now) s.held) then.1.1)))
 
     held : (d : DataValue) (now link : ℕ) (octets : List ℕ) (waited : ℕ) (s : EarlyShelf) (v : V) (t : EarlyShelf) (w : V) → t ≡ with_early (early_of d now link octets waited) (aged now s) → w ≡ v → IsDelay arrives now link octets waited s v t w
@@ -94,10 +94,10 @@ module _ {V : Type 0} where
         let came = early_of d now link octets waited in
         rw (shelf) (came, record { since = refl; link = refl; octets = refl; waited = refl }, ([], same, framed [] s.held (filter (is_alive now) s.held) (came ∷ []) (sifted (is_alive now) s.held)))
 
-    arrives_so : (b : Bool) (data : Option DataValue) (answer : Received) (now link : ℕ) (octets : List ℕ) (waited : ℕ) (s : EarlyShelf) (v : V) (t : EarlyShelf) (w : V) → ArrivesIf host arrives b data answer now link octets waited (aged now s) v t w → IsDelay arrives now link octets waited s v t w
+    arrives_so : (b : Bool) (brought : Option DataValue) (answer : Received) (now link : ℕ) (octets : List ℕ) (waited : ℕ) (s : EarlyShelf) (v : V) (t : EarlyShelf) (w : V) → ArrivesIf host arrives b brought answer now link octets waited (aged now s) v t w → IsDelay arrives now link octets waited s v t w
     arrives_so true (Some d) answer now link octets waited s v t w (done, shelf, same) = held d now link octets waited s v t w shelf same
     arrives_so true None answer now link octets waited s v t w on = handed None answer now link octets waited s v t w on
-    arrives_so false data answer now link octets waited s v t w on = handed data answer now link octets waited s v t w on
+    arrives_so false brought answer now link octets waited s v t w on = handed brought answer now link octets waited s v t w on
 
-    pub delays : (data : Option DataValue) (answer : Received) (now link : ℕ) (octets : List ℕ) (waited : ℕ) (s t : EarlyShelf) (v w : V) → Arrives host arrives data answer now link octets waited (aged now s) v t w → IsDelay arrives now link octets waited s v t w
-    delays data answer now link octets waited s t v w (found, on) = arrives_so (may_be_held (host v) data (aged now s) && found) data answer now link octets waited s v t w on
+    pub delays : (brought : Option DataValue) (answer : Received) (now link : ℕ) (octets : List ℕ) (waited : ℕ) (s t : EarlyShelf) (v w : V) → Arrives host arrives brought answer now link octets waited (aged now s) v t w → IsDelay arrives now link octets waited s v t w
+    delays brought answer now link octets waited s t v w (found, on) = arrives_so (may_be_held (host v) brought (aged now s) && found) brought answer now link octets waited s v t w on

@@ -1,3 +1,4 @@
 mod Picking
 mod Replaying
 mod Delaying
+mod Arriving

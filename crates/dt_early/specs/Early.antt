@@ -139,15 +139,15 @@ module _ {V : Type 0} (host : V → Host) (arrives : Received → (now link : �
   ReplaysFor (Some d) now first last s v t w = Replays now d.flow first last s v t w
 
   abbrev pub HandsIn : Option DataValue → Received → (now link : ℕ) → List ℕ → (waited : ℕ) → EarlyShelf → V → EarlyShelf → V → Type 0
-  HandsIn data answer now link octets waited s v t w = (first : Received) × (mid : V) × arrives first now link octets waited v mid × ReplaysFor data now first answer s mid t w
+  HandsIn brought answer now link octets waited s v t w = (first : Received) × (mid : V) × arrives first now link octets waited v mid × ReplaysFor brought now first answer s mid t w
 
   -- A DATAGRAM COMES. One that came too early is held where there is room, and nothing is called: it was answered for as if it had come. Where no memory was found for that, it is handed in as each other is
   abbrev pub ArrivesIf : (held : Bool) → Option DataValue → Received → (now link : ℕ) → List ℕ → (waited : ℕ) → EarlyShelf → V → EarlyShelf → V → Type 0
   ArrivesIf true (Some d) answer now link octets waited s v t w = (answer ≡ arrived.Done) × (t ≡ with_early (early_of d now link octets waited) s) × (w ≡ v)
-  ArrivesIf held data answer now link octets waited s v t w = HandsIn data answer now link octets waited s v t w
+  ArrivesIf held brought answer now link octets waited s v t w = HandsIn brought answer now link octets waited s v t w
 
   abbrev pub Arrives : Option DataValue → Received → (now link : ℕ) → List ℕ → (waited : ℕ) → EarlyShelf → V → EarlyShelf → V → Type 0
-  Arrives data answer now link octets waited s v t w = (found : Bool) × ArrivesIf (may_be_held (host v) data s && found) data answer now link octets waited s v t w
+  Arrives brought answer now link octets waited s v t w = (found : Bool) × ArrivesIf (may_be_held (host v) brought s && found) brought answer now link octets waited s v t w
 
 -- AN ENDPOINT, AND A SERVICE, behind a shelf that has let go what has no life left
 abbrev pub host_of : EndpointValue → Host
@@ -166,4 +166,4 @@ ShelfServes answer now link octets waited s n t m = Arrives host_of_service serv
 abbrev pub Keeps : (held : Bool) → Option DataValue → Host → (now link : ℕ) → List ℕ → (waited : ℕ) → EarlyShelf → EarlyShelf → Type 0
 Keeps true (Some d) host now link octets waited s t = (may_be_held host (Some d) s ≡ true) × (t ≡ with_early (early_of d now link octets waited) s)
 Keeps true None host now link octets waited s t = ⊥
-Keeps false data host now link octets waited s t = t ≡ s
+Keeps false brought host now link octets waited s t = t ≡ s

@@ -1,7 +1,7 @@
 //! Which datagrams came too early: data above the number that their flow's receiver expects.
 ghost use Rattle.std.specs.Prelude.{◌≡◌, IfSome, ◌<◌};
 ghost use Rattle.dt_layout.specs.Spelling.{packet_of};
-ghost use Rattle.dt_early.specs.Early.{data_at, data_in, data_of, is_ahead};
+ghost use Rattle.dt_early.specs.Early.{data_at, data_in, data_of, expected_at, is_ahead};
 
 use crate::arrivals::Arrival;
 use dt_endpoint::Endpoint;
@@ -51,14 +51,21 @@ fn data_of(from: NodeId, me: NodeId, packet: &Packet<'_>, life: u32) -> Option<D
 
 /// The data that a datagram brings to an endpoint, or none where the endpoint would refuse it, or it has
 /// none for its node. Their life is longer than the datagram waited.
-pub fn data_at(endpoint: &Endpoint, arrival: &Arrival<'_>) -> Option<Data>
-    ensures data { let a = arrival.now in result ≡ data_at endpoint.now a.link a.datagram.now a.waited }
-    ensures life { IfSome result (λ data. arrival.now.waited < data.life) }
+pub fn data_at(endpoint: &Endpoint, arrival: Arrival<'_>) -> Option<Data>
+    ensures brings { let a = arrival.entry in result ≡ data_at endpoint.now a.link a.datagram.now a.waited }
+    ensures life { IfSome result (λ brought. arrival.entry.waited < brought.life) }
 {
     match endpoint.check(arrival.link, arrival.datagram, arrival.waited) {
         Ok(gram) => data_in(endpoint.me(), gram),
         Err(_) => None,
     }
+}
+
+/// The number that a flow's receiver expects next, or none where no receive record stands.
+pub fn expected_by(endpoint: &Endpoint, flow: &Flow) -> Option<u32>
+    ensures { result ≡ expected_at endpoint.now.state.host flow.now }
+{
+    endpoint.expected(flow)
 }
 
 /// Whether data with this number are ahead of what is expected. Where nothing is expected none are.

@@ -1,5 +1,5 @@
 //! A datagram on a shelf.
-ghost use Rattle.std.specs.Prelude.{◌≡◌, true};
+ghost use Rattle.std.specs.Prelude.{◌≡◌, ◌<◌};
 ghost use Rattle.dt_early.specs.Early.{is_alive, waited_by};
 
 use dt_units::Flow;
@@ -43,7 +43,7 @@ impl Held {
 
     /// How long it has waited, with its time here.
     pub fn waited_by(&self, now: u64) -> u32
-        requires { is_alive now self.now ≡ true }
+        requires { waited_by now self.now < self.now.life }
         ensures { result ≡ waited_by now self.now }
     {
         self.waited + (now.saturating_sub(self.since) as u32) + 1

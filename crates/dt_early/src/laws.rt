@@ -20,5 +20,5 @@ pub fn shelf_is_a_link_that_delays()
 
 /// Delays follow one another: what comes meanwhile is under way beside what is.
 pub fn delays_go_on()
-    ensures { (first then : List (Call {V = EndpointValue})) (before came between more after : List Early) → Delays first (before ++ came) between → Delays then (between ++ more) after → Delays (first ++ then) ((before ++ came) ++ more) after }
+    ensures { (first then : List (Call EndpointValue)) (before came between more after : List Early) → Delays first (before ++ came) between → Delays then (between ++ more) after → Delays (first ++ then) ((before ++ came) ++ more) after }
 {}

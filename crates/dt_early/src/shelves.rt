@@ -1,12 +1,12 @@
 //! `EarlyShelf`, which stands before an endpoint or a service.
-ghost use Rattle.std.specs.Prelude.{◌≡◌, ◌<◌, OnErr, OnOk, IfSome, true, count_by, length};
+ghost use Rattle.std.specs.Prelude.{◌≡◌, ◌<◌, OnErr, OnOk, IfSome, count_by, filter, length};
 ghost use Rattle.std.specs.List.{list_any, position};
 ghost use Rattle.dt_endpoint.specs.Calls.{Arrives};
 ghost use Rattle.dt_service.specs.Calls as service_calls;
-ghost use Rattle.dt_early.specs.Early.{Keeps, Replays, ShelfArrives, ShelfServes, aged, early_of, empty_shelf, has_room, host_of, host_of_service, is_alive, is_of, is_of_flow, is_ready, ready, with_early};
+ghost use Rattle.dt_early.specs.Early.{Keeps, Replays, ShelfArrives, ShelfServes, aged, early_of, empty_shelf, has_room, host_of, host_of_service, is_alive, is_of, is_of_flow, is_ready, ready, waited_by, with_early};
 
 use crate::arrivals::Arrival;
-use crate::early_data::{Data, data_at, is_ahead};
+use crate::early_data::{Data, data_at, expected_by, is_ahead};
 use crate::held::Held;
 use dt_endpoint::{Endpoint, Received};
 use dt_items::NoMemory;
@@ -76,12 +76,12 @@ impl EarlyShelf {
     ///
     /// The cost beside that of [`Endpoint::arrive`] is a look at each datagram that is held, and another
     /// for each that is handed in.
-    pub fn arrive(&mut self, endpoint: &mut Endpoint, arrival: &Arrival<'_>) -> Received
-        ensures { let a = arrival.now in ShelfArrives result a.now a.link a.datagram.now a.waited self.old endpoint.old self.new endpoint.new }
+    pub fn arrive(&mut self, endpoint: &mut Endpoint, arrival: Arrival<'_>) -> Received
+        ensures { let a = arrival.entry in ShelfArrives result a.now a.link a.datagram.now a.waited self.old endpoint.old self.new endpoint.new }
     {
         self.age(arrival.now);
-        let data = data_at(endpoint, arrival);
-        if self.keeps(endpoint, data, arrival) {
+        let brought = data_at(endpoint, arrival);
+        if self.keeps(endpoint, brought, arrival) {
             return Received::Done;
         }
         let first = endpoint.arrive(
@@ -90,19 +90,19 @@ impl EarlyShelf {
             arrival.datagram,
             arrival.waited,
         );
-        match data {
-            Some(data) => self.replay(endpoint, arrival.now, &data.flow, first),
+        match brought {
+            Some(brought) => self.replay(endpoint, arrival.now, &brought.flow, first),
             None => first,
         }
     }
 
     /// The same for a service. Each datagram that is handed in is a turn of it.
-    pub fn serve(&mut self, service: &mut Service, arrival: &Arrival<'_>) -> Received
-        ensures { let a = arrival.now in ShelfServes result a.now a.link a.datagram.now a.waited self.old service.old self.new service.new }
+    pub fn serve(&mut self, service: &mut Service, arrival: Arrival<'_>) -> Received
+        ensures { let a = arrival.entry in ShelfServes result a.now a.link a.datagram.now a.waited self.old service.old self.new service.new }
     {
         self.age(arrival.now);
-        let data = data_at(service.endpoint(), arrival);
-        if self.keeps(service.endpoint(), data, arrival) {
+        let brought = data_at(service.endpoint(), arrival);
+        if self.keeps(service.endpoint(), brought, arrival) {
             return Received::Done;
         }
         let first = service.arrive(
@@ -111,8 +111,8 @@ impl EarlyShelf {
             arrival.datagram,
             arrival.waited,
         );
-        match data {
-            Some(data) => self.replay_to_service(service, arrival.now, &data.flow, first),
+        match brought {
+            Some(brought) => self.replay_to_service(service, arrival.now, &brought.flow, first),
             None => first,
         }
     }
@@ -121,38 +121,41 @@ impl EarlyShelf {
     fn age(&mut self, now: u64)
         ensures { self.new ≡ aged now self.old }
     {
-        self.held.retain(|held| held.is_alive(now));
+        drop_old(now, &mut self.held);
     }
 
     /// Holds a datagram if its data came too early and there is room and memory for it.
-    fn keeps(&mut self, endpoint: &Endpoint, data: Option<Data>, arrival: &Arrival<'_>) -> bool
-        ensures { let a = arrival.now in Keeps result data endpoint.now.state.host a.now a.link a.datagram.now a.waited self.old self.new }
+    fn keeps(&mut self, endpoint: &Endpoint, brought: Option<Data>, arrival: Arrival<'_>) -> bool
+        ensures { let a = arrival.entry in Keeps result brought endpoint.now.state.host a.now a.link a.datagram.now a.waited self.old self.new }
     {
-        let Some(data) = data else {
+        let Some(brought) = brought else {
             return false;
         };
-        if data.begins || !is_ahead(endpoint.expected(&data.flow), data.number) {
+        if brought.begins || !is_ahead(expected_by(endpoint, &brought.flow), brought.number) {
             return false;
         }
-        if !self.has_room(&data) {
+        if !self.has_room(&brought) {
             return false;
         }
-        self.hold(&data, arrival).is_ok()
+        match self.hold(&brought, arrival) {
+            Ok(()) => true,
+            Err(NoMemory) => false,
+        }
     }
 
     /// Puts a datagram last. `NoMemory` leaves the shelf as it was.
-    fn hold(&mut self, data: &Data, arrival: &Arrival<'_>) -> Result<(), NoMemory>
-        ensures held { let a = arrival.now in OnOk result (self.new ≡ with_early (early_of data.now a.now a.link a.datagram.now a.waited) self.old) }
+    fn hold(&mut self, brought: &Data, arrival: Arrival<'_>) -> Result<(), NoMemory>
+        ensures held { let a = arrival.entry in OnOk result (self.new ≡ with_early (early_of brought.now a.now a.link a.datagram.now a.waited) self.old) }
         ensures same { OnErr result (self.new ≡ self.old) }
     {
         let octets = Vec::from_slice(self.alloc, arrival.datagram)?;
         self.held.reserve(1)?;
         self.held.push_reserved(Held {
             link: arrival.link,
-            flow: data.flow,
-            number: data.number,
+            flow: brought.flow,
+            number: brought.number,
             octets,
-            life: data.life,
+            life: brought.life,
             waited: arrival.waited,
             since: arrival.now,
         });
@@ -160,22 +163,22 @@ impl EarlyShelf {
     }
 
     /// Whether there is room for these data, which aren't held already.
-    fn has_room(&self, data: &Data) -> bool
-        ensures { result ≡ has_room data.now.flow data.now.number self.now }
+    fn has_room(&self, brought: &Data) -> bool
+        ensures { result ≡ has_room brought.now.flow brought.now.number self.now }
     {
         self.held.len() < self.most as usize
-            && count_of(&self.held, &data.flow) < self.of_flow as usize
-            && !has(&self.held, &data.flow, data.number)
+            && count_of(&self.held, &brought.flow) < self.of_flow as usize
+            && !has(&self.held, &brought.flow, brought.number)
     }
 
     /// Takes what is ready of a flow, if something is.
     fn take(&mut self, endpoint: &Endpoint, now: u64, flow: &Flow) -> Option<Held>
         ensures taken { result ≡ (ready endpoint.now.state.host now flow.now self.old).0 }
         ensures left { self.new ≡ (ready endpoint.now.state.host now flow.now self.old).1 }
-        ensures alive { IfSome result (λ held. is_alive now held ≡ true) }
+        ensures alive { IfSome result (λ held. waited_by now held < held.life) }
         ensures fewer { IfSome result (λ _. length self.new.held < length self.old.held) }
     {
-        let expected = endpoint.expected(flow);
+        let expected = expected_by(endpoint, flow);
         let place = first_ready(&self.held, expected, now, flow)?;
         Some(self.held.remove(place))
     }
@@ -219,6 +222,13 @@ impl EarlyShelf {
         }
         first
     }
+}
+
+/// What has no life left is gone.
+fn drop_old(now: u64, held: &mut Vec<Held>)
+    ensures { held.new.items ≡ filter (is_alive now) held.old.items }
+{
+    held.retain(|one| one.is_alive(now));
 }
 
 /// Whether a datagram is of this flow.
