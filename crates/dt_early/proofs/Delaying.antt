@@ -19,36 +19,36 @@ picked_one test (x ∷ hs) h e =
       | inr n ↦ rw n (there (picked_one test hs h (rw n at e)))
     ]
 
-one_framed : (h : Early) (hs rest more : List Early) → IsOneOf h hs rest → IsOneOf h (hs ++ more) (rest ++ more)
-one_framed h (h ∷ hs) hs more here = here
-one_framed h (x ∷ hs) (x ∷ rest) more (there one) = there (one_framed h hs rest more one)
+one_framed : {h : Early} {hs rest : List Early} (more : List Early) → IsOneOf h hs rest → IsOneOf h (hs ++ more) (rest ++ more)
+one_framed more here = here
+one_framed more (there one) = there (one_framed more one)
 
 last_one : (h : Early) (hs : List Early) → IsOneOf h (hs ++ h ∷ []) hs
 last_one h [] = here
 last_one h (x ∷ hs) = there (last_one h hs)
 
 module _ {V : Type 0} where
-  pub framed : (cs : List (Call V)) (hs left more : List Early) → Delays cs hs left → Delays cs (hs ++ more) (left ++ more)
-  framed [] hs hs more stays = stays
-  framed (c ∷ cs) hs left more (hands {rest = rest} h one over then) = hands h (one_framed h hs rest more one) over (framed cs rest left more then)
-  framed cs hs left more (loses {rest = rest} h one then) = loses h (one_framed h hs rest more one) (framed cs rest left more then)
+  pub framed : {cs : List (Call V)} {hs left : List Early} (more : List Early) → Delays cs hs left → Delays cs (hs ++ more) (left ++ more)
+  framed more stays = stays
+  framed more (hands h one over then) = hands h (one_framed more one) over (framed more then)
+  framed more (loses h one then) = loses h (one_framed more one) (framed more then)
 
-  pub joined : (cs ds : List (Call V)) (hs between left : List Early) → Delays cs hs between → Delays ds between left → Delays (cs ++ ds) hs left
-  joined [] ds hs hs left stays then = then
-  joined (c ∷ cs) ds hs between left (hands {rest = rest} h one over on) then = hands h one over (joined cs ds rest between left on then)
-  joined cs ds hs between left (loses {rest = rest} h one on) then = loses h one (joined cs ds rest between left on then)
+  pub joined : {cs ds : List (Call V)} {hs between left : List Early} → Delays cs hs between → Delays ds between left → Delays (cs ++ ds) hs left
+  joined stays then = then
+  joined (hands h one over on) then = hands h one over (joined on then)
+  joined (loses h one on) then = loses h one (joined on then)
 
-  consed : (x : Early) (cs : List (Call V)) (hs left : List Early) → Delays cs hs left → Delays cs (x ∷ hs) (x ∷ left)
-  consed x [] hs hs stays = stays
-  consed x (c ∷ cs) hs left (hands {rest = rest} h one over then) = hands h (there one) over (consed x cs rest left then)
-  consed x cs hs left (loses {rest = rest} h one then) = loses h (there one) (consed x cs rest left then)
+  consed : {cs : List (Call V)} {hs left : List Early} (x : Early) → Delays cs hs left → Delays cs (x ∷ hs) (x ∷ left)
+  consed x stays = stays
+  consed x (hands h one over then) = hands h (there one) over (consed x then)
+  consed x (loses h one then) = loses h (there one) (consed x then)
 
   -- what has no life left is lost
-  pub sifted : (test : Early → Bool) (hs : List Early) → Delays ([] {A = Call V}) hs (filter test hs)
+  pub sifted : (test : Early → Bool) (hs : List Early) → Delays {V = V} [] hs (filter test hs)
   sifted test [] = stays
   sifted test (x ∷ hs) =
       elim (cases_Bool (test x)) [
-        | inl y ↦ rw y (consed x [] hs (filter test hs) (sifted test hs))
+        | inl y ↦ rw y (consed x (sifted test hs))
         | inr n ↦ rw n (loses x here (sifted test hs))
       ]
 
@@ -56,7 +56,7 @@ module _ {V : Type 0} where
     abbrev Goes : List Early → V → List Early → V → Type 0
     Goes hs v left w = (calls : List (Call V)) × AreCalls arrives calls v w × Delays calls hs left
 
-    call_of : (now : ℕ) (h : Early) (answer : Received) (after : V) → Call V
+    abbrev call_of : (now : ℕ) (h : Early) (answer : Received) (after : V) → Call V
     call_of now h answer after = record { now = now; link = h.link; octets = h.octets; waited = waited_by now h; answer = answer; after = after }
 
     round : (now : ℕ) (h : Early) (answer : Received) (v mid w : V) (hs rest left : List Early) → IsOneOf h hs rest → arrives answer now h.link h.octets (waited_by now h) v mid → Goes rest mid left w → Goes hs v left w
@@ -87,12 +87,12 @@ module _ {V : Type 0} where
         let came = came_so now link octets waited no_flow in
         let then = replayed_for brought now first answer (aged now s) mid t w on in
         let call : Call V = record { now = now; link = link; octets = octets; waited = waited; answer = first; after = mid } in
-        (came, record { since = refl; link = refl; octets = refl; waited = refl }, (call ∷ then.0, (does, then.1.0), hands came (last_one came s.held) (refl, refl, inl (refl, refl)) (joined [] then.0 s.held (filter (is_alive now) s.held) t.held (sifted (is_alive now) s.held) then.1.1)))
+        (came, record { since = refl; link = refl; octets = refl; waited = refl }, (call ∷ then.0, (does, then.1.0), hands came (last_one came s.held) (refl, refl, inl (refl, refl)) (joined (sifted (is_alive now) s.held) then.1.1)))
 
     held : (d : DataValue) (now link : ℕ) (octets : List ℕ) (waited : ℕ) (s : EarlyShelf) (v : V) (t : EarlyShelf) (w : V) → t ≡ with_early (early_of d now link octets waited) (aged now s) → w ≡ v → IsDelay arrives now link octets waited s v t w
     held d now link octets waited s v t w shelf same =
         let came = early_of d now link octets waited in
-        rw (shelf) (came, record { since = refl; link = refl; octets = refl; waited = refl }, ([], same, framed [] s.held (filter (is_alive now) s.held) (came ∷ []) (sifted (is_alive now) s.held)))
+        rw (shelf) (came, record { since = refl; link = refl; octets = refl; waited = refl }, ([], same, framed (came ∷ []) (sifted (is_alive now) s.held)))
 
     arrives_so : (b : Bool) (brought : Option DataValue) (answer : Received) (now link : ℕ) (octets : List ℕ) (waited : ℕ) (s : EarlyShelf) (v : V) (t : EarlyShelf) (w : V) → ArrivesIf host arrives b brought answer now link octets waited (aged now s) v t w → IsDelay arrives now link octets waited s v t w
     arrives_so true (Some d) answer now link octets waited s v t w (done, shelf, same) = held d now link octets waited s v t w shelf same

@@ -1,13 +1,10 @@
 -- The datagram at the first place where a test holds is the one that is picked, and what is left is shorter.
-use Rattle.std.proofs.Common.{◌≡◌, ◌+◌, ◌-◌, ◌<◌, ◌&&◌, not, ℕ, zero, suc, Bool, true, false, List, [], ◌∷◌, length, get_or, Option, Some, None, refl, ap, inl, inr, subst, sym, ◌∙◌, arith}
+use Rattle.std.proofs.Common.{◌≡◌, ◌+◌, ◌<◌, ℕ, zero, suc, Bool, true, false, List, [], ◌∷◌, length, get_or, Option, Some, None, refl, ap, inl, inr, subst, sym, ◌∙◌, arith}
 use Rattle.std.proofs.lemmas.Bool.{cases_Bool}
-use Rattle.std.proofs.lemmas.Bool.Decides.{nat_tests}
-use Rattle.dt_units.specs.declared.endpoints.Flow.{Flow}
-use Rattle.dt_world_model.specs.Tables.{same_flow}
 use Rattle.std.specs.List.{position, remove}
 use Rattle.std.proofs.lemmas.List.Quantifiers.{position-Some}
 use Rattle.std.proofs.lemmas.List.Sums.{fails_before_first}
-use Rattle.dt_early.specs.Early.{Early, EarlyShelf, is_ahead, is_alive, is_ready, pick, waited_by, with_held}
+use Rattle.dt_early.specs.Early.{Early, EarlyShelf, pick, with_held}
 
 module _ (test : Early → Bool) where
   passed_over : (h : Early) (hs : List Early) → test h ≡ false → pick test (h ∷ hs) ≡ ((pick test hs).0, h ∷ (pick test hs).1)
@@ -53,14 +50,3 @@ module _ (test : Early → Bool) where
 
   pub stays_as : (s : EarlyShelf) → position test s.held ≡ None → s ≡ with_held (pick test s.held).1 s
   stays_as s at = rw (nowhere s.held at) refl
-
--- what is ready has more life than it waited
-right_of : (a b : Bool) → (a && b) ≡ true → b ≡ true
-right_of true b e = e
-right_of false b e = absurd cc
-
-pub lives : (expected : Option ℕ) (now : ℕ) (f : Flow) (d : Early) → is_ready expected now f d ≡ true → waited_by now d < d.life
-lives expected now f d e =
-    let alive : is_alive now d ≡ true = right_of (not (is_ahead expected d.number)) (is_alive now d) (right_of (same_flow d.flow f) (not (is_ahead expected d.number) && is_alive now d) e) in
-    let below : now - d.since < d.life - d.waited - 1 = grind (arith, nat_tests, alive) in
-    omega (arith, below)

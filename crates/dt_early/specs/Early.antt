@@ -1,5 +1,5 @@
 -- A shelf before an endpoint or a service: datagrams whose data came too early, each as it came, with its time until then and the moment at which it was put there.
-use Rattle.std.specs.Prelude.{◌≡◌, ℕ, ◌+◌, ◌-◌, ◌==◌, ◌&&◌, nat_lt, not, Bool, true, false, List, [], ◌∷◌, ◌++◌, count_by, filter, length, Option, Some, None, Result, Ok, Err, if◌then◌else◌}
+use Rattle.std.specs.Prelude.{◌≡◌, ℕ, ◌+◌, ◌-◌, ◌==◌, ◌&&◌, min, nat_lt, not, Bool, true, false, List, [], ◌∷◌, ◌++◌, count_by, filter, length, Option, Some, None, Result, Ok, Err, if◌then◌else◌}
 use Rattle.std.specs.List.{list_any}
 use Rattle.dt_units.specs.declared.endpoints.Flow.{Flow}
 use Rattle.dt_units.specs.declared.order.Relation.{Relation}
@@ -45,9 +45,12 @@ empty_shelf = record { most = 0; of_flow = 0; held = [] }
 abbrev pub with_held : List Early → EarlyShelf → EarlyShelf
 with_held held s = record { most = s.most; of_flow = s.of_flow; held = held }
 
--- ITS TIME ON THE SHELF, in which one millisecond more stands for the two readings of the clock. It is alive while it has more life than it waited with that
+-- ITS TIME ON THE SHELF, in which one millisecond more stands for the two readings of the clock, is added to what it had waited, up to 2^32 - 1: no life is longer. It is alive while it has more life than that
+abbrev pub most_waited : ℕ
+most_waited = 4294967295
+
 abbrev pub waited_by : ℕ → Early → ℕ
-waited_by now h = h.waited + (now - h.since) + 1
+waited_by now h = min (h.waited + (now - h.since) + 1) most_waited
 
 abbrev pub is_alive : ℕ → Early → Bool
 is_alive now h = nat_lt (now - h.since) (h.life - h.waited - 1)

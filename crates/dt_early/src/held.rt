@@ -1,5 +1,5 @@
 //! A datagram on a shelf.
-ghost use Rattle.std.specs.Prelude.{◌≡◌, ◌<◌};
+ghost use Rattle.std.specs.Prelude.{◌≡◌};
 ghost use Rattle.dt_early.specs.Early.{is_alive, waited_by};
 
 use dt_units::Flow;
@@ -41,11 +41,12 @@ impl Held {
         now.saturating_sub(self.since) < left.saturating_sub(1)
     }
 
-    /// How long it has waited, with its time here.
+    /// How long it has waited, with its time here, and 2^32 - 1 at most.
     pub fn waited_by(&self, now: u64) -> u32
-        requires { waited_by now self.now < self.now.life }
         ensures { result ≡ waited_by now self.now }
     {
-        self.waited + (now.saturating_sub(self.since) as u32) + 1
+        let here = now.saturating_sub(self.since).saturating_add(1);
+        let waited = here.saturating_add(u64::from(self.waited));
+        waited.min(u64::from(u32::MAX)) as u32
     }
 }

@@ -3,7 +3,7 @@ ghost use Rattle.std.specs.Prelude.{◌≡◌, ◌<◌, OnErr, OnOk, IfSome, cou
 ghost use Rattle.std.specs.List.{list_any, position};
 ghost use Rattle.dt_endpoint.specs.Calls.{Arrives};
 ghost use Rattle.dt_service.specs.Calls as service_calls;
-ghost use Rattle.dt_early.specs.Early.{Keeps, Replays, ShelfArrives, ShelfServes, aged, early_of, empty_shelf, has_room, host_of, host_of_service, is_alive, is_of, is_of_flow, is_ready, ready, waited_by, with_early};
+ghost use Rattle.dt_early.specs.Early.{Keeps, Replays, ShelfArrives, ShelfServes, aged, early_of, empty_shelf, has_room, host_of, host_of_service, is_alive, is_of, is_of_flow, is_ready, ready, with_early};
 
 use crate::arrivals::Arrival;
 use crate::early_data::{Data, data_at, expected_by, is_ahead};
@@ -175,7 +175,6 @@ impl EarlyShelf {
     fn take(&mut self, endpoint: &Endpoint, now: u64, flow: &Flow) -> Option<Held>
         ensures taken { result ≡ (ready endpoint.now.state.host now flow.now self.old).0 }
         ensures left { self.new ≡ (ready endpoint.now.state.host now flow.now self.old).1 }
-        ensures alive { IfSome result (λ held. waited_by now held < held.life) }
         ensures fewer { IfSome result (λ _. length self.new.held < length self.old.held) }
     {
         let expected = expected_by(endpoint, flow);

@@ -6,7 +6,7 @@ use Rattle.dt_early.proofs.shelves.EarlyShelf.replay.Given as goal
 
 -- what is ready now leads to the end of all
 abbrev pub invariant-replays : goal.invariant-replays
-invariant-replays l = Leads host_of calls.Arrives l.now l.flow.now l.first l.fn.self l.fn.endpoint l.self l.endpoint
+invariant-replays l = Leads host_of calls.Arrives l.now l.flow l.first l.fn.self l.fn.endpoint l.self l.endpoint
 
 abbrev pub decreases-replays : goal.decreases-replays
 decreases-replays l = length l.self.held
