@@ -87,7 +87,7 @@ module _ {V : Type 0} where
         let came = came_so now link octets waited no_flow in
         let then = replayed_for brought now first answer (aged now s) mid t w on in
         let call : Call V = record { now = now; link = link; octets = octets; waited = waited; answer = first; after = mid } in
-        (came, record { since = refl; link = refl; octets = refl; waited = refl }, (call ∷ then.0, (does, then.1.0), hands came (last_one came s.held) (refl, refl, inl (refl, refl)) (joined (sifted (is_alive now) s.held) then.1.1)))
+        (came, record { since = refl; link = refl; octets = refl; waited = refl }, (call ∷ then.0, (does, then.1), hands came (last_one came s.held) (refl, refl, inl (refl, refl)) (joined (sifted (is_alive now) s.held) then.2)))
 
     held : (d : DataValue) (now link : ℕ) (octets : List ℕ) (waited : ℕ) (s : EarlyShelf) (v : V) (t : EarlyShelf) (w : V) → t ≡ with_early (early_of d now link octets waited) (aged now s) → w ≡ v → IsDelay arrives now link octets waited s v t w
     held d now link octets waited s v t w shelf same =

@@ -50,3 +50,11 @@ module _ (test : Early → Bool) where
 
   pub stays_as : (s : EarlyShelf) → position test s.held ≡ None → s ≡ with_held (pick test s.held).1 s
   stays_as s at = rw (nowhere s.held at) refl
+
+  pub none_left : (hs : List Early) → (pick test hs).0 ≡ None → (pick test hs).1 ≡ hs
+  none_left [] e = refl
+  none_left (x ∷ hs) e =
+      elim (cases_Bool (test x)) [
+        | inl y ↦ let no : Some x ≡ None = rw y at e in absurd cc
+        | inr n ↦ rw n (ap (λ (r : List Early). x ∷ r) (none_left hs (rw n at e)))
+      ]

@@ -178,8 +178,17 @@ impl EarlyShelf {
         ensures fewer { IfSome result (λ _. length self.new.held < length self.old.held) }
     {
         let expected = expected_by(endpoint, flow);
-        let place = first_ready(&self.held, expected, now, flow)?;
+        let place = self.ready_place(expected, now, flow)?;
         Some(self.held.remove(place))
+    }
+
+    /// Where the first stands that is ready.
+    fn ready_place(&self, expected: Option<u32>, now: u64, flow: &Flow) -> Option<usize>
+        ensures { result ≡ position (is_ready expected now flow.now) self.now.held }
+    {
+        self.held
+            .iter()
+            .position(|one| is_ready(one, expected, now, flow))
     }
 
     /// Hands in what is ready of a flow, until nothing is.
@@ -195,8 +204,8 @@ impl EarlyShelf {
         'replays: while let Some(held) = self.take(endpoint, now, flow) {
             let waited = held.waited_by(now);
             let got = endpoint.arrive(now, held.link, held.octets.as_slice(), waited);
-            if got == Received::NoMemory {
-                return got;
+            if let Received::NoMemory = got {
+                return Received::NoMemory;
             }
         }
         first
@@ -215,8 +224,8 @@ impl EarlyShelf {
         'replays: while let Some(held) = self.take(service.endpoint(), now, flow) {
             let waited = held.waited_by(now);
             let got = service.arrive(now, held.link, held.octets.as_slice(), waited);
-            if got == Received::NoMemory {
-                return got;
+            if let Received::NoMemory = got {
+                return Received::NoMemory;
             }
         }
         first
@@ -256,13 +265,6 @@ fn is_of(held: &Held, flow: &Flow, number: u32) -> bool
     ensures { result ≡ is_of flow.now number held.now }
 {
     held.flow == *flow && held.number == number
-}
-
-/// Where the first stands that is ready.
-fn first_ready(held: &[Held], expected: Option<u32>, now: u64, flow: &Flow) -> Option<usize>
-    ensures { result ≡ position (is_ready expected now flow.now) held.now }
-{
-    held.iter().position(|h| is_ready(h, expected, now, flow))
 }
 
 /// Whether a datagram of this flow is ready where this number is expected.
