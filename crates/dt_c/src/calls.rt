@@ -295,21 +295,12 @@ pub fn set_shelf(shelf: &mut Option<EarlyShelf>, alloc: Global, most: u32, of_fl
 }
 
 /// A datagram comes to an endpoint, which has a shelf or none.
-fn arrive(
-    endpoint: &mut Endpoint,
-    shelf: &mut Option<EarlyShelf>,
-    arrival: Arrival<'_>,
-) -> Received
+fn arrive(endpoint: &mut Endpoint, shelf: &mut Option<EarlyShelf>, arrival: Arrival<'_>) -> Received
     ensures { let a = arrival.entry in ArrivesBehind result a.now a.link a.datagram.now a.waited shelf.old endpoint.old shelf.new endpoint.new }
 {
     match shelf {
         Some(shelf) => shelf.arrive(endpoint, arrival),
-        None => endpoint.arrive(
-            arrival.now,
-            arrival.link,
-            arrival.datagram,
-            arrival.waited,
-        ),
+        None => endpoint.arrive(arrival.now, arrival.link, arrival.datagram, arrival.waited),
     }
 }
 

@@ -259,21 +259,12 @@ impl ServiceSlot {
 }
 
 /// A datagram comes to a service, which has a shelf or none.
-fn serve(
-    service: &mut Service,
-    shelf: &mut Option<EarlyShelf>,
-    arrival: Arrival<'_>,
-) -> Received
+fn serve(service: &mut Service, shelf: &mut Option<EarlyShelf>, arrival: Arrival<'_>) -> Received
     ensures { let a = arrival.entry in ServesBehind result a.now a.link a.datagram.now a.waited shelf.old service.old shelf.new service.new }
 {
     match shelf {
         Some(shelf) => shelf.serve(service, arrival),
-        None => service.arrive(
-            arrival.now,
-            arrival.link,
-            arrival.datagram,
-            arrival.waited,
-        ),
+        None => service.arrive(arrival.now, arrival.link, arrival.datagram, arrival.waited),
     }
 }
 

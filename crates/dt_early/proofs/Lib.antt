@@ -1,4 +1,3 @@
 mod Picking
 mod Replaying
 mod Delaying
-mod Arriving

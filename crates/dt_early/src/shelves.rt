@@ -84,12 +84,7 @@ impl EarlyShelf {
         if self.keeps(endpoint, brought, arrival) {
             return Received::Done;
         }
-        let first = endpoint.arrive(
-            arrival.now,
-            arrival.link,
-            arrival.datagram,
-            arrival.waited,
-        );
+        let first = endpoint.arrive(arrival.now, arrival.link, arrival.datagram, arrival.waited);
         match brought {
             Some(brought) => self.replay(endpoint, arrival.now, &brought.flow, first),
             None => first,
@@ -105,12 +100,7 @@ impl EarlyShelf {
         if self.keeps(service.endpoint(), brought, arrival) {
             return Received::Done;
         }
-        let first = service.arrive(
-            arrival.now,
-            arrival.link,
-            arrival.datagram,
-            arrival.waited,
-        );
+        let first = service.arrive(arrival.now, arrival.link, arrival.datagram, arrival.waited);
         match brought {
             Some(brought) => self.replay_to_service(service, arrival.now, &brought.flow, first),
             None => first,
