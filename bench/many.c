@@ -9,7 +9,8 @@
 #include <string.h>
 #include <time.h>
 
-enum { LINK = 1, CHARGE = 294, TURNS = 200, TIMEOUT = 3600000, MOST_LIVE = 4096, MOST_CHUNK = 65536, MORE_LINKS = 64 };
+enum { LINK = 1, CHARGE = 294, TURNS = 200, TIMEOUT = 3600000, MOST_LIVE = 4096, MOST_CHUNK = 65536, MORE_LINKS = 64,
+       SHELF = 256 };
 static const struct dt_params RULES = {
     .size = sizeof RULES, .mpl = 482, .r = 450, .a = 5, .rto = 90, .probe = 180, .seg = 1442,
     .cap = 65536, .rcap = 65536, .window = 65536, .run_limit = 2147483648u};
@@ -30,6 +31,10 @@ static void *owned(void *p) {
     if (p == NULL) die("out of memory", 0);
     return p;
 }
+
+/* an older library has no shelf; then losses are measured without */
+extern __typeof__(dt_node_set_shelf) dt_node_set_shelf __attribute__((weak));
+extern __typeof__(dt_service_set_shelf) dt_service_set_shelf __attribute__((weak));
 
 static double us(void) {
     struct timespec t;
@@ -420,6 +425,10 @@ static void step(struct pair *it, struct wire *over) {
 static void row_lossy(long n) {
     enum { SECONDS = 20, PATIENCE = 3000 };
     struct pair it = services((uint32_t)n + 10);
+    if (dt_service_set_shelf != NULL) {
+        must("dt_service_set_shelf", dt_service_set_shelf(it.a, SHELF, SHELF));
+        must("dt_service_set_shelf", dt_service_set_shelf(it.b, SHELF, SHELF));
+    }
     struct wire over = wire_of(50, 2);
     long open = 0, answered = 0, unsure = 0;
     for (; it.now < 1000 + SECONDS * 1000; it.now++) {
@@ -506,6 +515,7 @@ static size_t send_more(struct plain *it, size_t sent, size_t total, size_t chun
 static uint64_t transfer(size_t total, size_t chunk, unsigned loss, bool at_once) {
     enum { DELAY = 20, MOST_MS = 600000 };
     struct plain it = {node(1, 1000, &RULES), node(2, 1000, &RULES), 1000};
+    if (dt_node_set_shelf != NULL) must("dt_node_set_shelf", dt_node_set_shelf(it.b, SHELF, SHELF));
     struct wire over = wire_of(loss, DELAY);
     size_t sent = 0, came = 0;
     uint64_t took = 0;

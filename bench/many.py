@@ -13,6 +13,8 @@ exchange datagrams in memory, so neither sockets nor the system count. The rows:
 - link: the heap of one link, where segments have at most N octets
 - lossy: N calls under way on one flow, 5 % of datagrams lost, 2 ms each way
 - transfer: 4 MiB on one flow, 20 ms each way, at N per mille of loss
+
+Both have shelves of 256 datagrams where the library has shelves.
 - window: twice N octets, 20 ms each way: the acknowledgement of the first half makes room for the second
 
 Ends with 1 where a row doesn't end with 0."""

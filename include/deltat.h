@@ -530,6 +530,23 @@ struct dt_blocked_counts {
 /* Returns how many datagrams the guard blocked since the opening. Both stop at 2^64 - 1. */
 struct dt_blocked_counts dt_node_get_blocked_counts(dt_node *node);
 
+/* Makes a loss cheap: from now on the node holds datagrams whose data came too early, behind a gap
+ * of their flow, and handles them when the gap is filled; without that the sender sends all of them
+ * again. At most `max_datagrams` are held, and at most `max_of_flow` of one flow; what doesn't fit
+ * is handled at once, as a node without a shelf does. A node opens without a shelf: 0 and 0. For a
+ * flow at full speed `max_of_flow` is its window divided by `seg`, rounded up.
+ *
+ * dt_node_receive returns DT_OK for a datagram that is held, and it isn't counted then: it is
+ * handled by a later dt_node_receive of its flow, whose clock says how much longer it waited. One
+ * whose life ends before that is lost. So a shelf is a link that delays, and no promise changes.
+ * Datagrams of a flow without a receiver are never held. The guard is asked as a datagram arrives,
+ * and not again.
+ *   DT_OK        what is held already stays
+ *   DT_NOT_OPEN
+ * Cost: of dt_node_receive a look at each datagram that is held, and one more for each that it then
+ * handles. Memory: the octets of the datagrams that are held and 48 for each. */
+dt_status dt_node_set_shelf(dt_node *node, uint32_t max_datagrams, uint32_t max_of_flow);
+
 /* ---- 10 COUNTERS ----
  *
  * Counters change nothing, begin at 0, and stop at 2^64 - 1. */
@@ -800,6 +817,9 @@ dt_status dt_service_add_route(dt_service *service, const struct dt_route *route
 /* As dt_node_set_guard. */
 dt_status dt_service_set_guard(dt_service *service, const uint16_t *ports, size_t port_count,
                                bool all, uint32_t max_flows);
+
+/* As dt_node_set_shelf. */
+dt_status dt_service_set_shelf(dt_service *service, uint32_t max_datagrams, uint32_t max_of_flow);
 
 /* As dt_node_get_blocked_counts. */
 struct dt_blocked_counts dt_service_get_blocked_counts(dt_service *service);

@@ -442,6 +442,9 @@ public:
     Status set_guard(View<const std::uint16_t> ports, bool all, std::uint32_t max_flows) noexcept {
         return does(dt_node_set_guard, detail::pointer(ports), ports.size(), all, max_flows);
     }
+    Status set_shelf(std::uint32_t max_datagrams, std::uint32_t max_of_flow) noexcept {
+        return does(dt_node_set_shelf, max_datagrams, max_of_flow);
+    }
     BlockedCounts blocked_counts() noexcept {
         return handle_ ? dt_node_get_blocked_counts(handle_.get()) : BlockedCounts{0, 0};
     }
@@ -526,6 +529,9 @@ public:
     Status add_route(const Route &route) noexcept { return does(dt_service_add_route, &route); }
     Status set_guard(View<const std::uint16_t> ports, bool all, std::uint32_t max_flows) noexcept {
         return does(dt_service_set_guard, detail::pointer(ports), ports.size(), all, max_flows);
+    }
+    Status set_shelf(std::uint32_t max_datagrams, std::uint32_t max_of_flow) noexcept {
+        return does(dt_service_set_shelf, max_datagrams, max_of_flow);
     }
     BlockedCounts blocked_counts() noexcept {
         return handle_ ? dt_service_get_blocked_counts(handle_.get()) : BlockedCounts{0, 0};

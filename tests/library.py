@@ -11,6 +11,7 @@ are compiled by each compiler with these warnings, and linked:
   proves the same sizes.
 - exchange.c: two nodes, a message that comes whole, each refusal, wrong sizes of structs, and the calls of plain C.
 - messages.c: whole messages: with gaps, in parts, too long, for a buffer that is too small, of many flows.
+- shelf.c: data that came too early: held, handed in once, no longer than they live, within bounds.
 - each_failure.c: each request for memory fails in turn.
 - services.c: calls and replies, each of their answers, and each request for memory fails in turn.
 - handles.cpp: deltat.hpp, as C++17 and C++20, and without exceptions and RTTI; and the two programs of docs/library.md,
@@ -68,7 +69,7 @@ class Program(NamedTuple):
     has_heap: bool
 
 
-PROGRAMS = (Program("layout.c", False), Program("exchange.c", False), Program("messages.c", False), Program("each_failure.c", True), Program("services.c", True))
+PROGRAMS = (Program("layout.c", False), Program("exchange.c", False), Program("messages.c", False), Program("shelf.c", False), Program("each_failure.c", True), Program("services.c", True))
 # what valgrind and the sanitizers see of the random datagrams, and the flows of one peer that are opened
 FEW_DATAGRAMS, FLOWS = 20_000, 5_000
 

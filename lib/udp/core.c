@@ -110,6 +110,14 @@ dt_status dtu_core_set_guard(struct core *core, const struct ports *ports, bool 
                       : dt_service_set_guard(core->service, list, ports->count, all, max_flows);
 }
 
+/* Of a flow a window of whole segments is held at most, and of all flows what fits SHELF_OCTETS. */
+dt_status dtu_core_set_shelf(struct core *core, const struct dt_params *params) {
+    enum { SHELF_OCTETS = 1 << 20 };
+    uint32_t of_flow = params->window / params->seg + 1;
+    uint32_t all = of_flow > SHELF_OCTETS / params->seg ? of_flow : SHELF_OCTETS / params->seg;
+    return core->node ? dt_node_set_shelf(core->node, all, of_flow) : dt_service_set_shelf(core->service, all, of_flow);
+}
+
 dt_status dtu_core_set_port(struct core *core, uint16_t port, uint8_t kind) {
     if (core->node) return kind == 0 ? DT_OK : DT_INVALID;
     return dt_service_set_port(core->service, port, kind);

@@ -124,6 +124,7 @@ static dt_status open_core(dt_udp *u, struct dt_udp_error *error) {
     if (status == DT_OK)
         status = dtu_core_set_guard(&u->core, &u->ports, u->options.flags & DT_UDP_FLAG_ALL_PORTS,
                                     u->options.max_flows);
+    if (status == DT_OK) status = dtu_core_set_shelf(&u->core, u->options.params);
     return status == DT_OK ? status : dtu_refuse(error, status, 0, "out of memory");
 }
 

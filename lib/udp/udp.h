@@ -430,6 +430,7 @@ bool dtu_core_next_report(struct core *core, struct dt_report *report);
 uint64_t dtu_core_wake(struct core *core);
 dt_status dtu_core_add_route(struct core *core, uint32_t to);
 dt_status dtu_core_set_guard(struct core *core, const struct ports *ports, bool all, uint32_t max_flows);
+dt_status dtu_core_set_shelf(struct core *core, const struct dt_params *params);
 dt_status dtu_core_set_port(struct core *core, uint16_t port, uint8_t kind);
 dt_status dtu_core_mark_readable(struct core *core, const struct dt_flow *flow);
 dt_status dtu_core_next_message(struct core *core, uint64_t now, const struct iovec *room, struct dt_message *out);

@@ -14,6 +14,7 @@ use Rattle.dt_endpoint.specs.Acts.{OutFrameValue}
 use Rattle.dt_endpoint.specs.Calls.{AddsRoute, Arrives, Reads, Sends, Ticks}
 use Rattle.dt_world_model.specs.Tables.{look, same_flow}
 use Rattle.dt_endpoint.specs.Endpoints.{EndpointValue, endpoint_wake, with_followed}
+use Rattle.dt_early.specs.Early.{EarlyShelf, ShelfArrives, empty_shelf}
 use Rattle.dt_endpoint.specs.Guards.{GuardValue, admission, guard_after}
 use Rattle.dt_endpoint.specs.declared.guards.Admission.{Admission}
 use Rattle.dt_endpoint.specs.declared.guards.Admission.TheVariants.{Admitted, ClosedPort, TooManyFlows}
@@ -58,20 +59,27 @@ Filling least size status s t unfilled does = WithRoom (nat_le least size) ((sta
 
 -- the node goes on, and what is beside it stays as it is
 abbrev pub GoesOn : Slot → Slot → Type 0 → (EndpointValue → EndpointValue → Type 0) → Type 0
-GoesOn s t without does = PartGoesOn s.endpoint t.endpoint without does × (t.guard ≡ s.guard) × (t.mailbox ≡ s.mailbox)
+GoesOn s t without does = PartGoesOn s.endpoint t.endpoint without does × (t.guard ≡ s.guard) × (t.shelf ≡ s.shelf) × (t.mailbox ≡ s.mailbox)
 
 abbrev pub Ticking : (status now : ℕ) → Slot → Slot → Type 0
 Ticking status now s t = GoesOn s t (status ≡ not_open) (λ e f. (answer : Ticked) × (status ≡ ticked_status answer) × Ticks answer now e f)
 
--- A DATAGRAM that the guard admits is handed to the endpoint. One that it keeps out never came, and is counted
-abbrev pub ArrivesAt : Admission → ReceiveResult → (now link : ℕ) → List ℕ → (waited : ℕ) → EndpointValue → EndpointValue → Type 0
-ArrivesAt Admitted row now link octets waited e f = (answer : Received) × (row ≡ receive_result answer) × Arrives answer now link octets waited e f
-ArrivesAt ClosedPort row now link octets waited e f = (row ≡ received_as blocked) × (f ≡ e)
-ArrivesAt TooManyFlows row now link octets waited e f = (row ≡ received_as blocked) × (f ≡ e)
+-- AN ENDPOINT BEHIND A SHELF, or behind none
+abbrev pub ArrivesBehind : Received → (now link : ℕ) → List ℕ → (waited : ℕ) → Option EarlyShelf → EndpointValue → Option EarlyShelf → EndpointValue → Type 0
+ArrivesBehind answer now link octets waited None e None f = Arrives answer now link octets waited e f
+ArrivesBehind answer now link octets waited (Some s) e (Some t) f = ShelfArrives answer now link octets waited s e t f
+ArrivesBehind answer now link octets waited None e (Some t) f = ⊥
+ArrivesBehind answer now link octets waited (Some s) e None f = ⊥
+
+-- A DATAGRAM that the guard admits is handed to the endpoint, by its shelf where it has one. One that it keeps out never came, and is counted
+abbrev pub ArrivesAt : Admission → ReceiveResult → (now link : ℕ) → List ℕ → (waited : ℕ) → Option EarlyShelf → EndpointValue → Option EarlyShelf → EndpointValue → Type 0
+ArrivesAt Admitted row now link octets waited s e t f = (answer : Received) × (row ≡ receive_result answer) × ArrivesBehind answer now link octets waited s e t f
+ArrivesAt ClosedPort row now link octets waited s e t f = (row ≡ received_as blocked) × (t ≡ s) × (f ≡ e)
+ArrivesAt TooManyFlows row now link octets waited s e t f = (row ≡ received_as blocked) × (t ≡ s) × (f ≡ e)
 
 abbrev pub Arriving : ReceiveResult → (now link : ℕ) → List ℕ → (waited : ℕ) → Slot → Slot → Type 0
-Arriving row now link octets waited s t = PartGoesOn s.endpoint t.endpoint ((row ≡ received_as not_open) × (t.guard ≡ s.guard)) (λ e f. let found = admission e.state.host s.guard octets in
-    ArrivesAt found row now link octets waited e f × (t.guard ≡ guard_after found s.guard)) × (t.mailbox ≡ s.mailbox)
+Arriving row now link octets waited s t = PartGoesOn s.endpoint t.endpoint ((row ≡ received_as not_open) × (t.guard ≡ s.guard) × (t.shelf ≡ s.shelf)) (λ e f. let found = admission e.state.host s.guard octets in
+    ArrivesAt found row now link octets waited s.shelf e t.shelf f × (t.guard ≡ guard_after found s.guard)) × (t.mailbox ≡ s.mailbox)
 
 abbrev pub Sending : SendResult → (now : ℕ) → CFlow → List ℕ → (begin end : Bool) → Slot → Slot → Type 0
 Sending row now flow octets begin end s t = GoesOn s t (row ≡ sent_as not_open) (λ e f. (answer : Sent) × (row ≡ send_result answer) × Sends answer now (flow_of flow) octets begin end e f)
@@ -172,7 +180,18 @@ abbrev pub IsSet : (status : ℕ) → Option (List ℕ) → (most : ℕ) → Gua
 IsSet status ports most g h = ((status ≡ ok) × (h ≡ record g { ports = ports; most = most })) ⊎ ((status ≡ no_memory) × (h ≡ g))
 
 abbrev pub Guarding : (status : ℕ) → List ℕ → (all : Bool) → (most : ℕ) → Slot → Slot → Type 0
-Guarding status ports all most s t = PartGoesOn s.endpoint t.endpoint ((status ≡ not_open) × (t.guard ≡ s.guard)) (λ e f. (f ≡ e) × IsSet status (chosen all ports) most s.guard t.guard) × (t.mailbox ≡ s.mailbox)
+Guarding status ports all most s t = PartGoesOn s.endpoint t.endpoint ((status ≡ not_open) × (t.guard ≡ s.guard)) (λ e f. (f ≡ e) × IsSet status (chosen all ports) most s.guard t.guard) × (t.shelf ≡ s.shelf) × (t.mailbox ≡ s.mailbox)
+
+-- A SHELF IS SET: it holds so many at most from now on, and what it holds stays
+abbrev pub shelf_of : Option EarlyShelf → EarlyShelf
+shelf_of None = empty_shelf
+shelf_of (Some s) = s
+
+abbrev pub shelf_set : (most of_flow : ℕ) → Option EarlyShelf → EarlyShelf
+shelf_set most of_flow s = record { most = most; of_flow = of_flow; held = (shelf_of s).held }
+
+abbrev pub Shelving : (status : ℕ) → (most of_flow : ℕ) → Slot → Slot → Type 0
+Shelving status most of_flow s t = PartGoesOn s.endpoint t.endpoint ((status ≡ not_open) × (t.shelf ≡ s.shelf)) (λ e f. (f ≡ e) × (status ≡ ok) × (t.shelf ≡ Some (shelf_set most of_flow s.shelf))) × (t.guard ≡ s.guard) × (t.mailbox ≡ s.mailbox)
 
 -- WHAT IT KEPT OUT
 abbrev pub KeptOut : BlockedCounts → Slot → Slot → Type 0
@@ -197,7 +216,7 @@ abbrev pub HearsIn : (status : ℕ) → CFlow → (m n : MailboxValue) → Type 
 HearsIn status flow m n = ((status ≡ ok) × (n ≡ record m { inboxes = heard (flow_of flow) m.inboxes })) ⊎ ((status ≡ no_memory) × (n ≡ m))
 
 abbrev pub Hearing : (status : ℕ) → CFlow → Slot → Slot → Type 0
-Hearing status flow s t = PartGoesOn s.mailbox t.mailbox (status ≡ not_open) (HearsIn status flow) × (t.endpoint ≡ s.endpoint) × (t.guard ≡ s.guard)
+Hearing status flow s t = PartGoesOn s.mailbox t.mailbox (status ≡ not_open) (HearsIn status flow) × (t.endpoint ≡ s.endpoint) × (t.guard ≡ s.guard) × (t.shelf ≡ s.shelf)
 
 -- A MESSAGE IS TAKEN by the inbox out of the node
 abbrev pub TakesFor : (status now : ℕ) → (before after : List ℕ) → (old new : Message) → (m n : MailboxValue) → (e f : EndpointValue) → Type 0
@@ -206,7 +225,7 @@ TakesFor status now before after old new m n e f = (answer : Handed) × (status 
 abbrev pub Taking : (status now : ℕ) → (before after : List ℕ) → (old new : Message) → Slot → Slot → Type 0
 Taking status now before after old new s t = let unfilled = (after ≡ before) × (new ≡ old) in let untaken = (status ≡ not_open) × unfilled in
     Filling message_size old.size status s t unfilled
-    (PartGoesOn s.endpoint t.endpoint (untaken × (t.mailbox ≡ s.mailbox)) (λ e f. PartGoesOn s.mailbox t.mailbox (untaken × (f ≡ e)) (λ m n. TakesFor status now before after old new m n e f)) × (t.guard ≡ s.guard))
+    (PartGoesOn s.endpoint t.endpoint (untaken × (t.mailbox ≡ s.mailbox)) (λ e f. PartGoesOn s.mailbox t.mailbox (untaken × (f ≡ e)) (λ m n. TakesFor status now before after old new m n e f)) × (t.guard ≡ s.guard) × (t.shelf ≡ s.shelf))
 
 -- A ROUTE is added
 abbrev pub AddingRoute : (status : ℕ) → CRoute → Slot → Slot → Type 0

@@ -9,6 +9,7 @@ use Rattle.dt_endpoint.specs.declared.guards.Admission.{Admission}
 use Rattle.dt_endpoint.specs.declared.guards.Admission.TheVariants.{Admitted, ClosedPort, TooManyFlows}
 use Rattle.dt_endpoint.specs.Calls.{AddsRoute}
 use Rattle.dt_endpoint.specs.Endpoints.{opened}
+use Rattle.dt_early.specs.Early.{EarlyShelf, ShelfServes}
 use Rattle.dt_endpoint.specs.Guards.{admission, guard_after, open_guard}
 use Rattle.dt_service_model.specs.declared.answers.Forgot.{Forgot}
 use Rattle.dt_service_model.specs.declared.answers.Made.{Made}
@@ -40,17 +41,17 @@ use Rattle.dt_c.specs.declared.service_structs.ReplyResult.{ReplyResult}
 use Rattle.dt_c.specs.declared.service_structs.ServiceOptions.{ServiceOptions}
 use Rattle.dt_c.specs.declared.service_structs.CToken.{CToken}
 use Rattle.dt_c.specs.declared.service_slots.ServiceSlot.{ServiceSlot}
-use Rattle.dt_c.specs.Calls.{Filling, IsSet, PartGoesOn, buf_after, chosen, datagram_after, frame_status, frames_after, over}
+use Rattle.dt_c.specs.Calls.{Filling, IsSet, PartGoesOn, shelf_set, buf_after, chosen, datagram_after, frame_status, frames_after, over}
 use Rattle.dt_c.specs.CStructs.{blocked, blocked_counts, buffer_too_small, datagram_size, exists, flow_of, in_link, invalid, is_fit, no_memory, node_counts, node_counts_size, none, not_open, ok, open_result, out_link, params_of, receive_result, received_as, route, routed_status, stopped, ticked_status, wake_time}
 use Rattle.dt_c.specs.Users.{Ends, Keeps, Users, no_users, number_ended, number_kept, user_ended}
 use Rattle.dt_c.specs.ServiceStructs.{call_counts, call_counts_size, call_result, called_as, event_in, event_size, event_without_room, forgot_status, kind_of, replied_as, reply_result, service_options_size, start_of, token_of}
 
 abbrev pub empty_service : ServiceSlot
-empty_service = record { service = None; guard = open_guard; users = no_users }
+empty_service = record { service = None; guard = open_guard; shelf = None; users = no_users }
 
 -- the service goes on, and its guard and what was given with its calls stay as they are
 abbrev pub ServiceGoesOn : ServiceSlot → ServiceSlot → Type 0 → (Node → Node → Type 0) → Type 0
-ServiceGoesOn s t without does = PartGoesOn s.service t.service without does × (t.guard ≡ s.guard) × (t.users ≡ s.users)
+ServiceGoesOn s t without does = PartGoesOn s.service t.service without does × (t.guard ≡ s.guard) × (t.shelf ≡ s.shelf) × (t.users ≡ s.users)
 
 -- AN OPENING
 abbrev pub service_started : Params → NodeOptions → ServiceOptions → Node
@@ -96,7 +97,7 @@ CallsWith row now flow payload patience user us vs n m =
 
 abbrev pub Calling : CallResult → (now : ℕ) → CFlow → List ℕ → (patience user : ℕ) → ServiceSlot → ServiceSlot → Type 0
 Calling row now flow payload patience user s t =
-    PartGoesOn s.service t.service ((row ≡ called_as not_open) × (t.users ≡ s.users)) (CallsWith row now flow payload patience user s.users t.users) × (t.guard ≡ s.guard)
+    PartGoesOn s.service t.service ((row ≡ called_as not_open) × (t.users ≡ s.users)) (CallsWith row now flow payload patience user s.users t.users) × (t.guard ≡ s.guard) × (t.shelf ≡ s.shelf)
 
 abbrev pub Replying : ReplyResult → (now : ℕ) → CToken → List ℕ → ServiceSlot → ServiceSlot → Type 0
 Replying row now token payload s t = ServiceGoesOn s t (row ≡ replied_as not_open) (λ n m. (answer : Replied) × (row ≡ reply_result answer) × service.Replies answer now (token_of token) payload n m)
@@ -108,14 +109,20 @@ Forgetting status now token s t = ServiceGoesOn s t (status ≡ not_open) (λ n 
 abbrev pub ServiceTicking : (status now : ℕ) → ServiceSlot → ServiceSlot → Type 0
 ServiceTicking status now s t = ServiceGoesOn s t (status ≡ not_open) (λ n m. (answer : Ticked) × (status ≡ ticked_status answer) × service.Ticks answer now n m)
 
-abbrev pub ServiceArrivesAt : Admission → ReceiveResult → (now link : ℕ) → List ℕ → (waited : ℕ) → Node → Node → Type 0
-ServiceArrivesAt Admitted row now link octets waited n m = (answer : Received) × (row ≡ receive_result answer) × service.Arrives answer now link octets waited n m
-ServiceArrivesAt ClosedPort row now link octets waited n m = (row ≡ received_as blocked) × (m ≡ n)
-ServiceArrivesAt TooManyFlows row now link octets waited n m = (row ≡ received_as blocked) × (m ≡ n)
+abbrev pub ServesBehind : Received → (now link : ℕ) → List ℕ → (waited : ℕ) → Option EarlyShelf → Node → Option EarlyShelf → Node → Type 0
+ServesBehind answer now link octets waited None n None m = service.Arrives answer now link octets waited n m
+ServesBehind answer now link octets waited (Some s) n (Some t) m = ShelfServes answer now link octets waited s n t m
+ServesBehind answer now link octets waited None n (Some t) m = ⊥
+ServesBehind answer now link octets waited (Some s) n None m = ⊥
+
+abbrev pub ServiceArrivesAt : Admission → ReceiveResult → (now link : ℕ) → List ℕ → (waited : ℕ) → Option EarlyShelf → Node → Option EarlyShelf → Node → Type 0
+ServiceArrivesAt Admitted row now link octets waited s n t m = (answer : Received) × (row ≡ receive_result answer) × ServesBehind answer now link octets waited s n t m
+ServiceArrivesAt ClosedPort row now link octets waited s n t m = (row ≡ received_as blocked) × (t ≡ s) × (m ≡ n)
+ServiceArrivesAt TooManyFlows row now link octets waited s n t m = (row ≡ received_as blocked) × (t ≡ s) × (m ≡ n)
 
 abbrev pub ServiceArriving : ReceiveResult → (now link : ℕ) → List ℕ → (waited : ℕ) → ServiceSlot → ServiceSlot → Type 0
-ServiceArriving row now link octets waited s t = PartGoesOn s.service t.service ((row ≡ received_as not_open) × (t.guard ≡ s.guard)) (λ n m. let found = admission n.endpoint.state.host s.guard octets in
-    ServiceArrivesAt found row now link octets waited n m × (t.guard ≡ guard_after found s.guard)) × (t.users ≡ s.users)
+ServiceArriving row now link octets waited s t = PartGoesOn s.service t.service ((row ≡ received_as not_open) × (t.guard ≡ s.guard) × (t.shelf ≡ s.shelf)) (λ n m. let found = admission n.endpoint.state.host s.guard octets in
+    ServiceArrivesAt found row now link octets waited s.shelf n t.shelf m × (t.guard ≡ guard_after found s.guard)) × (t.users ≡ s.users)
 
 -- WHAT HAPPENED: the next of it, where the buffer has room for what it carries. Else it goes on waiting, and its size is told.
 abbrev pub has_room : Happening → List ℕ → Bool
@@ -154,7 +161,7 @@ TakesEvent status before after old new us vs n m = let first = (next n.book).0 i
 abbrev pub NextEvent : (status : ℕ) → (before after : List ℕ) → (old new : Event) → ServiceSlot → ServiceSlot → Type 0
 NextEvent status before after old new s t = let unfilled = (after ≡ before) × (new ≡ old) in
     Filling event_size old.size status s t unfilled (PartGoesOn s.service t.service ((status ≡ not_open) × unfilled × (t.users ≡ s.users))
-    (λ n m. TakesEvent status before after old new s.users t.users n m) × (t.guard ≡ s.guard))
+    (λ n m. TakesEvent status before after old new s.users t.users n m) × (t.guard ≡ s.guard) × (t.shelf ≡ s.shelf))
 
 -- A LIFE IS RAISED
 abbrev pub Raises : (status life : ℕ) → (n m : Node) → Type 0
@@ -188,7 +195,10 @@ abbrev pub ServiceAddingRoute : (status : ℕ) → CRoute → ServiceSlot → Se
 ServiceAddingRoute status r s t = ServiceGoesOn s t (status ≡ not_open) (λ n m. ((answer : Routed) × (status ≡ routed_status answer) × AddsRoute answer (route r) n.endpoint m.endpoint) × (m.book ≡ n.book))
 
 abbrev pub ServiceGuarding : (status : ℕ) → List ℕ → (all : Bool) → (most : ℕ) → ServiceSlot → ServiceSlot → Type 0
-ServiceGuarding status ports all most s t = PartGoesOn s.service t.service ((status ≡ not_open) × (t.guard ≡ s.guard)) (λ n m. (m ≡ n) × IsSet status (chosen all ports) most s.guard t.guard) × (t.users ≡ s.users)
+ServiceGuarding status ports all most s t = PartGoesOn s.service t.service ((status ≡ not_open) × (t.guard ≡ s.guard)) (λ n m. (m ≡ n) × IsSet status (chosen all ports) most s.guard t.guard) × (t.shelf ≡ s.shelf) × (t.users ≡ s.users)
+
+abbrev pub ServiceShelving : (status : ℕ) → (most of_flow : ℕ) → ServiceSlot → ServiceSlot → Type 0
+ServiceShelving status most of_flow s t = PartGoesOn s.service t.service ((status ≡ not_open) × (t.shelf ≡ s.shelf)) (λ n m. (m ≡ n) × (status ≡ ok) × (t.shelf ≡ Some (shelf_set most of_flow s.shelf))) × (t.guard ≡ s.guard) × (t.users ≡ s.users)
 
 abbrev pub ServiceKeptOut : BlockedCounts → ServiceSlot → ServiceSlot → Type 0
 ServiceKeptOut row s t = (row ≡ blocked_counts s.guard) × (t ≡ s)

@@ -1,7 +1,7 @@
 //! The calls, on what a handle holds.
-ghost use Rattle.std.specs.Prelude.{◌≡◌, IfErr, IfOk, false, length, map};
+ghost use Rattle.std.specs.Prelude.{◌≡◌, IfErr, IfOk, Some, false, length, map};
 ghost use Rattle.dt_units.specs.Limits.{IsWithinLimits};
-ghost use Rattle.dt_c.specs.Calls.{AddingRoute, Arriving, Counting, FingerprintIs, Following, Guarding, HandsOut, Hearing, KeptOut, MakesInbox, NextFrame, NextReport, Opening, Opens, QuietIs, Reading, Sending, TakesReport, Taking, Ticking, Totalling, Waking, IsSet, chosen, RulesOf, StandsInTheWay};
+ghost use Rattle.dt_c.specs.Calls.{AddingRoute, ArrivesBehind, Arriving, Counting, FingerprintIs, Following, Guarding, HandsOut, Hearing, KeptOut, MakesInbox, NextFrame, NextReport, Opening, Opens, QuietIs, Reading, Sending, Shelving, shelf_set, TakesReport, Taking, Ticking, Totalling, Waking, IsSet, chosen, RulesOf, StandsInTheWay};
 ghost use Rattle.dt_c.specs.Handle.{empty};
 ghost use Rattle.dt_c.specs.CStructs.{in_link, out_link, params_of, route, started};
 
@@ -15,7 +15,8 @@ use crate::c_structs::{
     sent_as, ticked_status, wake_time,
 };
 use crate::slots::Slot;
-use dt_endpoint::{Admission, Endpoint, Guard, InLink, Links, OutLink, Route};
+use dt_early::{Arrival, EarlyShelf};
+use dt_endpoint::{Admission, Endpoint, Guard, InLink, Links, OutLink, Received, Route};
 use dt_fingerprint::fingerprint;
 use dt_inbox::Mailbox;
 use dt_items::NoMemory;
@@ -28,6 +29,7 @@ pub fn empty_slot() -> Slot
     Slot {
         endpoint: None,
         guard: Guard::new(),
+        shelf: None,
         mailbox: None,
     }
 }
@@ -61,7 +63,15 @@ impl Slot {
             return received_as(NOT_OPEN);
         };
         match self.guard.admits(endpoint, datagram) {
-            Admission::Admitted => receive_result(endpoint.arrive(now, link, datagram, waited)),
+            Admission::Admitted => {
+                let arrival = Arrival {
+                    now,
+                    link,
+                    datagram,
+                    waited,
+                };
+                receive_result(arrive(endpoint, &mut self.shelf, arrival))
+            }
             Admission::ClosedPort | Admission::TooManyFlows => received_as(BLOCKED),
         }
     }
@@ -71,6 +81,18 @@ impl Slot {
     {
         match &self.endpoint {
             Some(_) => set_guard(&mut self.guard, alloc, ports, all, most),
+            None => NOT_OPEN,
+        }
+    }
+
+    pub(crate) fn set_shelf(&mut self, alloc: Global, most: u32, of_flow: u32) -> u8
+        ensures { Shelving result most of_flow self.old self.new }
+    {
+        match &self.endpoint {
+            Some(_) => {
+                set_shelf(&mut self.shelf, alloc, most, of_flow);
+                OK
+            }
             None => NOT_OPEN,
         }
     }
@@ -257,6 +279,28 @@ pub fn set_guard(guard: &mut Guard, alloc: Global, ports: &[u16], all: bool, mos
     match guard.limit(alloc, ports, most) {
         Ok(()) => OK,
         Err(NoMemory) => NO_MEMORY,
+    }
+}
+
+/// From now on so many datagrams that came too early are held at most, and so many of one flow.
+pub fn set_shelf(shelf: &mut Option<EarlyShelf>, alloc: Global, most: u32, of_flow: u32)
+    ensures { shelf.new ≡ Some (shelf_set most of_flow shelf.old) }
+{
+    let mut limited = match shelf.take() {
+        Some(shelf) => shelf,
+        None => EarlyShelf::new(alloc),
+    };
+    limited.limit(most, of_flow);
+    *shelf = Some(limited);
+}
+
+/// A datagram comes to an endpoint, which has a shelf or none.
+fn arrive(endpoint: &mut Endpoint, shelf: &mut Option<EarlyShelf>, arrival: Arrival<'_>) -> Received
+    ensures { let a = arrival.entry in ArrivesBehind result a.now a.link a.datagram.now a.waited shelf.old endpoint.old shelf.new endpoint.new }
+{
+    match shelf {
+        Some(shelf) => shelf.arrive(endpoint, arrival),
+        None => endpoint.arrive(arrival.now, arrival.link, arrival.datagram, arrival.waited),
     }
 }
 

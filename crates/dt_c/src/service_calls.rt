@@ -1,7 +1,7 @@
 //! The calls, on what a handle of a service holds.
 ghost use Rattle.std.specs.Prelude.{◌≡◌, IfOk, if◌then◌else◌};
 ghost use Rattle.dt_c.specs.CStructs.{no_memory, stopped};
-ghost use Rattle.dt_c.specs.Serving.{CallCounting, Calling, Forgetting, GetsKind, HandsFrame, NextEvent, Porting, Raises, Raising, Replying, ServiceAddingRoute, ServiceArriving, ServiceCounting, ServiceGuarding, ServiceKeptOut, ServiceNextFrame, ServiceOpening, ServiceOpens, ServiceTicking, ServiceWaking, Stopping, empty_service, is_service_fit, service_started};
+ghost use Rattle.dt_c.specs.Serving.{CallCounting, Calling, Forgetting, GetsKind, HandsFrame, NextEvent, Porting, Raises, Raising, Replying, ServesBehind, ServiceAddingRoute, ServiceArriving, ServiceCounting, ServiceGuarding, ServiceKeptOut, ServiceNextFrame, ServiceOpening, ServiceOpens, ServiceShelving, ServiceTicking, ServiceWaking, Stopping, empty_service, is_service_fit, service_started};
 ghost use Rattle.dt_c.specs.ServiceStructs.{kind_of};
 
 use crate::c_structs::{
@@ -11,7 +11,7 @@ use crate::c_structs::{
     has_room, open_result, receive_result, received_as, routed_status, ticked_status, wake_time,
 };
 use crate::call_users::{CallUsers, keep_user};
-use crate::calls::set_guard;
+use crate::calls::{set_guard, set_shelf};
 use crate::service_events::take_event;
 use crate::service_slots::ServiceSlot;
 use crate::service_structs::{
@@ -19,7 +19,8 @@ use crate::service_structs::{
     SERVICE_OPTIONS_SIZE, ServiceOptions, call_result, called_as, fill_call_counts, forgot_status,
     kind_of, replied_as, reply_result,
 };
-use dt_endpoint::{Admission, Guard, Links};
+use dt_early::{Arrival, EarlyShelf};
+use dt_endpoint::{Admission, Guard, Links, Received};
 use dt_items::NoMemory;
 use dt_service::Service;
 use dt_service_model::PortKind;
@@ -32,6 +33,7 @@ pub fn empty_service_slot() -> ServiceSlot
     ServiceSlot {
         service: None,
         guard: Guard::new(),
+        shelf: None,
         users: CallUsers::new(),
     }
 }
@@ -126,7 +128,15 @@ impl ServiceSlot {
             return received_as(NOT_OPEN);
         };
         match self.guard.admits(service.endpoint(), datagram) {
-            Admission::Admitted => receive_result(service.arrive(now, link, datagram, waited)),
+            Admission::Admitted => {
+                let arrival = Arrival {
+                    now,
+                    link,
+                    datagram,
+                    waited,
+                };
+                receive_result(serve(service, &mut self.shelf, arrival))
+            }
             Admission::ClosedPort | Admission::TooManyFlows => received_as(BLOCKED),
         }
     }
@@ -203,6 +213,18 @@ impl ServiceSlot {
         }
     }
 
+    pub(crate) fn set_shelf(&mut self, alloc: Global, most: u32, of_flow: u32) -> u8
+        ensures { ServiceShelving result most of_flow self.old self.new }
+    {
+        match &self.service {
+            Some(_) => {
+                set_shelf(&mut self.shelf, alloc, most, of_flow);
+                OK
+            }
+            None => NOT_OPEN,
+        }
+    }
+
     pub(crate) fn get_blocked_counts(&mut self) -> BlockedCounts
         ensures { ServiceKeptOut result self.old self.new }
     {
@@ -233,6 +255,16 @@ impl ServiceSlot {
         };
         fill_call_counts(out, service.counts());
         OK
+    }
+}
+
+/// A datagram comes to a service, which has a shelf or none.
+fn serve(service: &mut Service, shelf: &mut Option<EarlyShelf>, arrival: Arrival<'_>) -> Received
+    ensures { let a = arrival.entry in ServesBehind result a.now a.link a.datagram.now a.waited shelf.old service.old shelf.new service.new }
+{
+    match shelf {
+        Some(shelf) => shelf.serve(service, arrival),
+        None => service.arrive(arrival.now, arrival.link, arrival.datagram, arrival.waited),
     }
 }
 

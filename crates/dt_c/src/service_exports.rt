@@ -3,7 +3,7 @@ ghost use Rattle.std.specs.Borrow.{sem};
 ghost use Rattle.std.specs.Ptr.{points_to, uninit_at};
 ghost use Rattle.dt_c.specs.contracts.service_slots.ServiceSlot.{the_row as service_row};
 ghost use Rattle.dt_c.specs.declared.service_slots.ServiceSlot.{ServiceSlot};
-ghost use Rattle.dt_c.specs.Serving.{CallCounting, Calling, Forgetting, NextEvent, Porting, Raising, Replying, ServiceAddingRoute, ServiceArriving, ServiceCounting, ServiceGuarding, ServiceKeptOut, ServiceNextFrame, ServiceOpening, ServiceTicking, ServiceWaking, Stopping, empty_service};
+ghost use Rattle.dt_c.specs.Serving.{CallCounting, Calling, Forgetting, NextEvent, Porting, Raising, Replying, ServiceAddingRoute, ServiceArriving, ServiceCounting, ServiceGuarding, ServiceKeptOut, ServiceNextFrame, ServiceOpening, ServiceShelving, ServiceTicking, ServiceWaking, Stopping, empty_service};
 
 use crate::c_structs::{
     BlockedCounts, CFlow, CParams, CRoute, Datagram, NodeCounts, NodeOptions, OpenResult,
@@ -220,6 +220,26 @@ pub unsafe extern "C" fn dt_service_set_guard(
         ports,
         all,
         flows,
+    )
+}
+
+/// From now on so many datagrams that came too early are held at most, and so many of one flow.
+#[unsafe(no_mangle)]
+pub unsafe extern "C" fn dt_service_set_shelf(
+    service: *mut ServiceHandle,
+    alloc: Global,
+    datagrams: u32,
+    of_flow: u32,
+) -> u8
+    ghost g: { ServiceSlot }
+    requires* { sem 𝓛 (points_to service_row service g) }
+    ensures* { ∃ₛ (λ h. sem 𝓛 (points_to service_row service h) ∗ ⌜ ServiceShelving result datagrams of_flow g h ⌝) }
+{
+    ServiceSlot::set_shelf(
+        unsafe { &mut *(service as *mut ServiceSlot) },
+        alloc,
+        datagrams,
+        of_flow,
     )
 }
 

@@ -2,7 +2,7 @@
 ghost use Rattle.std.specs.Prelude.{◌≡◌};
 ghost use Rattle.std.specs.Borrow.{sem};
 ghost use Rattle.std.specs.Ptr.{points_to, uninit_at};
-ghost use Rattle.dt_c.specs.Calls.{AddingRoute, FingerprintIs, Guarding, MakesInbox, Opening, QuietIs};
+ghost use Rattle.dt_c.specs.Calls.{AddingRoute, FingerprintIs, Guarding, MakesInbox, Opening, QuietIs, Shelving};
 ghost use Rattle.dt_c.specs.Handle.{empty};
 ghost use Rattle.dt_c.specs.Networks.{ParamsFor};
 ghost use Rattle.dt_c.specs.contracts.slots.Slot.{the_row};
@@ -97,6 +97,26 @@ pub unsafe extern "C" fn dt_node_set_guard(
         ports,
         all,
         flows,
+    )
+}
+
+/// From now on so many datagrams that came too early are held at most, and so many of one flow.
+#[unsafe(no_mangle)]
+pub unsafe extern "C" fn dt_node_set_shelf(
+    node: *mut Handle,
+    alloc: Global,
+    datagrams: u32,
+    of_flow: u32,
+) -> u8
+    ghost g: { Slot }
+    requires* { sem 𝓛 (points_to the_row node g) }
+    ensures* { ∃ₛ (λ h. sem 𝓛 (points_to the_row node h) ∗ ⌜ Shelving result datagrams of_flow g h ⌝) }
+{
+    Slot::set_shelf(
+        unsafe { &mut *(node as *mut Slot) },
+        alloc,
+        datagrams,
+        of_flow,
     )
 }
 

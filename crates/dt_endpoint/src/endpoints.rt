@@ -3,6 +3,8 @@ ghost use Rattle.std.specs.Prelude.{ℕ, [], ◌≡◌, ◌+◌, ◌<◌, ◌≤
 ghost use Rattle.std.specs.Result.{result_err};
 ghost use Rattle.dt_reports.specs.Told.{told};
 ghost use Rattle.dt_flow_model.specs.Keeping.{most_moment, octets_below};
+ghost use Rattle.dt_flow_model.specs.ReceiveRecord.{expected_of};
+ghost use Rattle.dt_world_model.specs.Host.{receiver_at};
 ghost use Rattle.dt_world_model.specs.Relay.{route_to};
 ghost use Rattle.dt_world_model.specs.Tables.{has_key, look, same_flow};
 ghost use Rattle.dt_station.specs.Events.{MayHappenHere, local_seen};
@@ -181,8 +183,8 @@ impl Endpoint {
         }
     }
 
-    /// A datagram that comes, or why it is refused.
-    fn check<'a>(
+    /// A datagram that would come, or why [`Endpoint::arrive`] would refuse it. Nothing changes.
+    pub fn check<'a>(
         &self,
         link: u16,
         datagram: &'a [u8],
@@ -370,6 +372,14 @@ impl Endpoint {
         ensures { result ≡ has_key same_flow flow.now self.now.state.host.receivers }
     {
         self.station.host().has_receiver(flow)
+    }
+
+    /// The number that a flow's receiver expects next, or none where no receive record stands, as the last
+    /// event left it. Its cost is that of a look-up.
+    pub fn expected(&self, flow: &Flow) -> Option<u32>
+        ensures { result ≡ expected_of (receiver_at self.now.state.host flow.now).standing }
+    {
+        self.station.host().expected(flow)
     }
 
     /// How many flows have a receiver, as the last event left them: a tick releases those that are due.

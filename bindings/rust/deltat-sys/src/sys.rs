@@ -1403,6 +1403,23 @@ extern "C" {
     /// Returns how many datagrams the guard blocked since the opening. Both stop at 2^64 - 1.
     pub fn dt_node_get_blocked_counts(node: *mut dt_node) -> dt_blocked_counts;
 
+    /// Makes a loss cheap: from now on the node holds datagrams whose data came too early, behind a gap of their
+    /// flow, and handles them when the gap is filled; without that the sender sends all of them again. At most
+    /// `max_datagrams` are held, and at most `max_of_flow` of one flow; what doesn't fit is handled at once, as a
+    /// node without a shelf does. A node opens without a shelf: 0 and 0. For a flow at full speed `max_of_flow` is
+    /// its window divided by `seg`, rounded up. dt_node_receive returns DT_OK for a datagram that is held, and it
+    /// isn't counted then: it is handled by a later dt_node_receive of its flow, whose clock says how much longer
+    /// it waited. One whose life ends before that is lost. So a shelf is a link that delays, and no promise
+    /// changes. Datagrams of a flow without a receiver are never held. The guard is asked as a datagram arrives,
+    /// and not again.
+    ///
+    /// - `DT_OK`: what is held already stays
+    /// - `DT_NOT_OPEN`
+    ///
+    /// Cost: of dt_node_receive a look at each datagram that is held, and one more for each that it then handles.
+    /// Memory: the octets of the datagrams that are held and 48 for each.
+    pub fn dt_node_set_shelf(node: *mut dt_node, max_datagrams: u32, max_of_flow: u32) -> dt_status;
+
     /// Gets the counters of a node.
     ///
     /// - `DT_OK`
@@ -1596,6 +1613,13 @@ extern "C" {
         port_count: usize,
         all: bool,
         max_flows: u32,
+    ) -> dt_status;
+
+    /// As dt_node_set_shelf.
+    pub fn dt_service_set_shelf(
+        service: *mut dt_service,
+        max_datagrams: u32,
+        max_of_flow: u32,
     ) -> dt_status;
 
     /// As dt_node_get_blocked_counts.
