@@ -448,6 +448,15 @@ def driven(built: Built, folder: pathlib.Path) -> str:
     return f"3000 calls, up to {found[1]} events in a batch"
 
 
+def room(built: Built, folder: pathlib.Path) -> str:
+    """Calls, messages and objects are refused when their settings are reached, an event says when there is room again,
+    each call has its own user at its end, and a drain waits until nothing is outstanding."""
+    ran = subprocess.run([built("room"), str(free_port())], capture_output=True, text=True, timeout=PATIENCE, check=False)
+    found = [figures(it) for it in ran.stdout.splitlines()]
+    wants(ran.returncode == 0 and len(found) == 3, ran.stdout + ran.stderr[-2000:])
+    return ", ".join(ran.stdout.splitlines())
+
+
 def narrow(built: Built, folder: pathlib.Path) -> str:
     """A segment that doesn't fit the path is reported; one that fits passes."""
     if os.geteuid() or not shutil.which("unshare") or not shutil.which("ip"):
@@ -835,6 +844,7 @@ CASES: list[Callable[[Built, pathlib.Path], str]] = [
     forked,
     threads,
     driven,
+    room,
     narrow,
     learnt,
     masqueraded,

@@ -402,6 +402,8 @@ struct dt_udp {
     bool unread;           /* messages stay in the node, since too many octets wait for dt_udp_next_event */
     uint64_t quiet_until;  /* the node is silent until then */
     uint64_t open_calls;   /* whose end wasn't handed out */
+    bool wants_room;       /* a flow was full, and the program wasn't told of room since */
+    uint64_t settled_then; /* how many octets were acknowledged or uncertain when it was */
     uint64_t heard_at;     /* when a datagram was last passed in */
     uint64_t input_at;     /* the greatest reading of an input */
     uint64_t ticked_at;    /* when the node last did what is due */
