@@ -13,6 +13,7 @@ import multiprocessing
 import os
 import pathlib
 import socket
+import subprocess
 import sys
 import tempfile
 import threading
@@ -362,7 +363,97 @@ def large() -> str:
     return "12 calls"
 
 
-CASES = [calls, at_once, messages, uncertain, errors, neighbours, idle, unlisted, large]
+PLAIN_SERVICE = """
+import sys
+import deltat
+from deltat import PortKind, driver
+
+with driver.Udp(2, PARAMS, charge=294, port=sys.argv[1], state=sys.argv[2], max_peers=1000, service=True) as udp:
+    udp.open_port(20, PortKind.SERVICE)
+    calls = driver.Calls(udp)
+
+    @calls.on(20)
+    def octets_reversed(request: deltat.Request) -> bytes:
+        return request.payload[::-1]
+
+    calls.run()
+"""
+PLAIN_CLIENT = """
+import sys
+import deltat
+from deltat import PortKind, Start, driver
+
+number = deltat.fresh_number()
+with driver.Udp(number, PARAMS, charge=294, start=Start.FIRST, service=True) as udp:
+    udp.set_peer(2, sys.argv[2], sys.argv[1])
+    udp.open_port(10, PortKind.CALLER)
+    print(driver.Calls(udp).call(deltat.Flow(number, 10, 2, 20), sys.argv[3].encode(), timeout=20.0).decode())
+"""
+ASYNC_SERVICE = """
+import asyncio
+import sys
+import deltat
+from deltat import PortKind, driver
+
+
+async def main() -> None:
+    with driver.Udp(2, PARAMS, charge=294, port=sys.argv[1], state=sys.argv[2], max_peers=1000, service=True) as udp:
+        udp.open_port(20, PortKind.SERVICE)
+        async with driver.AsyncCalls(udp) as calls:
+
+            @calls.on(20)
+            async def octets_reversed(request: deltat.Request) -> bytes:
+                return request.payload[::-1]
+
+            await calls.run()
+
+
+asyncio.run(main())
+"""
+ASYNC_CLIENT = """
+import asyncio
+import sys
+import deltat
+from deltat import PortKind, Start, driver
+
+
+async def main() -> None:
+    number = deltat.fresh_number()
+    with driver.Udp(number, PARAMS, charge=294, start=Start.FIRST, service=True) as udp:
+        udp.set_peer(2, sys.argv[2], sys.argv[1])
+        udp.open_port(10, PortKind.CALLER)
+        async with driver.AsyncCalls(udp) as calls:
+            print((await calls.call(deltat.Flow(number, 10, 2, 20), sys.argv[3].encode(), timeout=20.0)).decode())
+
+
+asyncio.run(main())
+"""
+
+
+def short() -> str:
+    """A service and a client of at most 30 lines each, plain and in asyncio, over 127.0.0.1, ::1 and a name."""
+    env = {**os.environ, "PYTHONPATH": str(TOP / "bindings" / "python")}
+
+    def words(program: str, *more: object) -> list[str]:
+        wants(sum(1 for it in program.split("\n") if it.strip()) <= 30, "a program has more than 30 lines")
+        return [sys.executable, "-c", program.replace("PARAMS", f"deltat.{PARAMS}"), *map(str, more)]
+
+    ran = 0
+    for service, client in ((PLAIN_SERVICE, ASYNC_CLIENT), (ASYNC_SERVICE, PLAIN_CLIENT)):
+        with tempfile.TemporaryDirectory() as folder:
+            port = free_port()
+            with subprocess.Popen(words(service, port, folder), env=env) as serves:
+                time.sleep(1)
+                for host in ("127.0.0.1", "::1", "localhost"):
+                    asks = words(client, port, host, f"hello {host}")
+                    found = subprocess.run(asks, env=env, capture_output=True, text=True, timeout=60, check=False)
+                    wants(found.stdout == f"hello {host}"[::-1] + "\n", f"{host}: {found.stdout}{found.stderr}")
+                    ran += 1
+                serves.kill()
+    return f"{ran} clients"
+
+
+CASES = [calls, at_once, messages, uncertain, errors, neighbours, idle, unlisted, large, short]
 
 
 def main() -> int:

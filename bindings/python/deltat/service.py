@@ -48,8 +48,8 @@ from ._c import Cause, EventKind, InvalidReason, PortKind, Start, Status
 from ._c_udp import EventKind as Kind
 from ._library import library
 from .errors import Declined, DeltatError, Forked, Full, Gone, InvalidArgument, OutOfMemory, Stopped, Unsure
-from .node import AnyNode, Exports
 from .driven import Driver
+from .node import AnyNode, Exports
 from .udp import AnyAsyncUdp, AnyUdp
 from .values import Flow, Link, Params, flow_from_c, flow_to_c, in_range, octets_of
 
@@ -67,7 +67,7 @@ _INVALID = {
 
 
 _FIRST_USER = 1 << 63
-"""The users of calls by `Calls` are counted from here on, and those that a program gives to `Service.call` are lower."""
+"""The users of calls by `Calls` are counted from here on; those that a program gives to `Service.call` are lower."""
 
 
 class Token(NamedTuple):
