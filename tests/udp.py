@@ -579,7 +579,8 @@ def masqueraded(built: Built, folder: pathlib.Path) -> str:
     wants(len(served) == len(set(served)) == 10 * each, f"{len(served)} were served, {len(set(served))} of them different")
     wants(found["learnt"] >= 10 * each and found["forgotten"] >= 5 * each, str(found))
     wants(max(sizes[6:]) < 1.25 * max(sizes[2:5]), f"the service grew: {sizes} KiB")
-    return f"{10 * each} clients, {sizes[0]} to {sizes[-1]} KiB resident, {found['challenges']} challenges"
+    grew = " ".join(map(str, sizes))
+    return f"{10 * each} clients, {found['challenges']} challenges; KiB resident after each tenth: {grew}"
 
 
 def rebinds(built: Built, folder: pathlib.Path) -> str:
