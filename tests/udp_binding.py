@@ -205,7 +205,7 @@ def messages() -> str:
 
 
 def uncertain() -> str:
-    """A client that goes before its answer arrives: the service learns that its reply was given up, and of which flow."""
+    """A client that goes before its answer arrives: the service learns of which flow a reply was given up."""
     with opened(2, free_port(), max_peers=1) as udp:
         udp.open_port(SERVICE, PortKind.SERVICE)
         calls = driver.Calls(udp)
@@ -265,6 +265,17 @@ def node_of(number: int, links: list[int], routes: dict[int, int]) -> deltat.Nod
     return deltat.Node(number, PARAMS, [deltat.Link(it, 294) for it in links], routes, start=Start.FIRST)
 
 
+def arrives(udp: deltat.Udp, end: socket.socket, target: int) -> bool:
+    """Whether a datagram for a node arrives there. (A machine that others load may drop one as late: it goes again.)"""
+    until = time.monotonic() + 20
+    while time.monotonic() < until:
+        with contextlib.suppress(TimeoutError):
+            if int.from_bytes(end.recv(2000)[12:16], "big") == target:
+                return True
+        udp.poll(0.0)
+    return False
+
+
 def neighbours() -> str:
     """A node with two links and two neighbours: what leaves for nodes behind them goes to the right one, what comes
     from behind them is taken in, and what comes from elsewhere isn't."""
@@ -272,15 +283,16 @@ def neighbours() -> str:
         near, far, strange = (ends.enter_context(socket.socket(socket.AF_INET, socket.SOCK_DGRAM)) for _ in range(3))
         for it in (near, far, strange):
             it.bind((HOST, 0))
-            it.settimeout(5)
+            it.settimeout(0.1)
         node = node_of(1, [7, 8, 9], {2: 7, 3: 7, 4: 8, 5: 8, 6: 9})
-        udp = ends.enter_context(deltat.Udp(node, (HOST, 0), {2: near.getsockname(), 4: far.getsockname()}, watch=False))
+        peers = {2: near.getsockname(), 4: far.getsockname()}
+        udp = ends.enter_context(deltat.Udp(node, (HOST, 0), peers, watch=False))
         for target, end in ((2, near), (3, near), (4, far), (5, far)):
             udp.send(deltat.Flow(1, 10, target, 20), b"to %d" % target)
-            octets = end.recv(2000)
-            wants(int.from_bytes(octets[12:16], "big") == target, f"what is for {target} goes to its neighbour")
+            wants(arrives(udp, end, target), f"what is for {target} goes to its neighbour")
+        late = udp.not_sent
         udp.send(deltat.Flow(1, 10, 6, 20), b"nowhere")
-        wants(udp.not_sent == 1, "a link without a neighbour: its datagram isn't sent, and is counted")
+        wants(udp.not_sent > late, "a link without a neighbour: its datagram isn't sent, and is counted")
         for maker, end, is_heard in ((3, near, True), (4, far, True), (5, far, True), (2, strange, False)):
             other = node_of(maker, [1], {1: 1})
             other.send(deltat.Flow(maker, 30, 1, 40), b"from %d" % maker)
@@ -292,7 +304,8 @@ def neighbours() -> str:
 
 
 def idle() -> str:
-    """Nothing is due and nothing comes: a wait of 2.3 s takes as long, and one without end ends when a datagram comes."""
+    """Nothing is due and nothing comes: a wait takes as long as it may, and one without end ends when a datagram
+    comes."""
     with (
         socket.socket(socket.AF_INET, socket.SOCK_DGRAM) as near,
         deltat.Udp(node_of(1, [1], {2: 1}), (HOST, 0), {2: (HOST, free_port())}) as udp,
