@@ -657,9 +657,12 @@ class Stranger:
             return found
 
     def challenged(self) -> bytes:
-        """The challenge that answers a frame, which is all that does."""
+        """The challenge that answers a frame, which is all that does. (Who was heard before may get what it was sent
+        then.)"""
         self.frame()
         found = self.answers() or self.answers()
+        if self.number:
+            found = [it for it in found if it[0] not in (1, 2)]
         wants(len(found) == 1 and found[0][:3] == bytes([208, 1, 1]) and len(found[0]) == 28, f"no challenge: {found}")
         return found[0]
 
