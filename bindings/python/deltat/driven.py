@@ -10,6 +10,7 @@ import ctypes
 import os
 import socket
 import struct
+import time
 import weakref
 from collections.abc import Iterable
 from typing import TYPE_CHECKING, Any, NoReturn
@@ -100,6 +101,8 @@ class Driver:
         self._batch_view, self._to_batch = memoryview(self._batch).cast("B"), ctypes.byref(self._batch)
         self.count = self._used = self._heard_count = 0
         """How many events the last turn took, of how many octets."""
+        self.turned_at = 0.0
+        """When the last turn ended, by time.monotonic()."""
         self.was_blocked = False
         """Whether the guard blocked a datagram at the last turn."""
         self.alarm = self.alarm_peer = 0
@@ -156,7 +159,7 @@ class Driver:
         status: int = next_batch(self._handle or self._open(), wait_ms, self._to_batch)
         found = _RESULT.unpack_from(self._batch_view, _RESULT_AT)
         self.count, self._used, self._heard_count, self.was_blocked, self.alarm, self.alarm_peer, made = found
-        self.refused = None
+        self.refused, self.turned_at = None, time.monotonic()
         if made == begun:
             self._call_count = self._payloads_used = 0
         else:

@@ -66,6 +66,8 @@ _INVALID = {
 }
 
 
+LONGEST_AWAY = 0.004
+"""If the socket wasn't looked at for so many seconds, a call has it looked at."""
 _FIRST_USER = 1 << 63
 """The users of calls by `Calls` are counted from here on; those that a program gives to `Service.call` are lower."""
 
@@ -648,8 +650,13 @@ class AsyncCalls:
         if udp._failure:
             udp._check()
         end: asyncio.Future[bytes] = self._loop.create_future()
-        self._desk.begin(udp.udp._driven, end, flow, payload, timeout)
-        udp._soon()
+        driven = udp.udp._driven
+        self._desk.begin(driven, end, flow, payload, timeout)
+        if time.monotonic() - driven.turned_at > LONGEST_AWAY:
+            # (a loop that is busy must not keep what arrives waiting)
+            udp._turn()
+        else:
+            udp._soon()
         return await end
 
     async def reply(self, token: Token, payload: bytes) -> None:
