@@ -123,6 +123,7 @@ struct watch {
     uint64_t present, next; /* the names of its present opening, and of one that isn't proved; 0: none */
     uint64_t pinged_us;     /* when it was last asked */
     uint64_t under_way;     /* octets that were handed in and aren't settled */
+    uint64_t on_wire;       /* the same with the headers of their datagrams: what the window counts */
     struct waiting_flows ready;    /* flows for which something waits for the window, each in its turn */
     struct waiting_flows full;     /* those that had no room of their own when so many octets were settled: */
     uint64_t full_at;
