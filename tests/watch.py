@@ -88,7 +88,12 @@ class Programs:
         self.folder = folder
         self.made = 0
         codec = [str(TOP / "lib" / "udp" / f"{it}.c") for it in ("trailer", "octets")]
-        for name, more in (("relay", ()), ("form", codec), ("ends", (WRAPPED, *map(str, ARCHIVES)))):
+        for name, more in (
+            ("relay", ()),
+            ("form", codec),
+            ("ends", (WRAPPED, *map(str, ARCHIVES))),
+            ("turns", tuple(map(str, ARCHIVES))),
+        ):
             words = [COMPILER, *FLAGS, str(HERE / f"{name}.c"), *more, "-o", str(folder / name)]
             ran = subprocess.run(words, capture_output=True, text=True, check=False)
             if ran.returncode:
@@ -261,6 +266,24 @@ def form(programs: Programs) -> str:
     return f"{len(given)} trailers"
 
 
+def turns(programs: Programs) -> str:
+    """A hundred calls of 32 KiB on one flow, which has room for one: a call on another flow of the same peer isn't held
+    up by them, and a call whose time is over ends though others wait before it."""
+    ports = [free_port() for _ in range(4)]
+    relay = programs.start("relay", a=ports[1], b=ports[2], to_a=ports[0], to_b=ports[3], delay=5000, rate=50)
+    keys = {"mpl": 800, "r": 1200, "rto": 150, "charge": 300}
+    server = programs.start("ends", "serve", port=ports[3], peer_port=ports[2], **keys)
+    client = programs.start("turns", str(ports[0]), str(ports[1]))
+    try:
+        said = numbers(client.communicate(timeout=PATIENCE)[0])
+    finally:
+        for it in (client, server, relay):
+            it.kill()
+    assert said.get("answered") == 100, f"{said}"
+    assert said["before"] <= 15 and said["late"] == 0, f"the other flow's call was held up: {said}"
+    return f"the call on another flow ended after {said['before']} of 100"
+
+
 # paths: what the relay does, the longest delay and a usual round trip in us, and what is under way
 PATHS: dict[str, tuple[dict[str, float], dict[str, int], dict[str, int]]] = {
     "loopback": ({"delay": 0}, {"delay_us": 200, "trip_us": 200}, {"flows": 16, "depth": 16, "octets": 4000}),
@@ -300,7 +323,7 @@ def main() -> int:
     cases: dict[str, Callable[[Programs], str]] = {
         it: (lambda programs, it=it: runs_of(it, programs, words.runs)) for it in LINKS
     }
-    cases["form"] = form
+    cases["form"], cases["turns"] = form, turns
     cases["drops"] = lambda programs: drops(programs, words.datagrams)
     if unknown := set(words.cases) - set(cases):
         parser.error(f"no case {', '.join(sorted(unknown))}")
