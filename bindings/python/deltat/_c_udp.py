@@ -261,6 +261,14 @@ class Batch(ctypes.Structure):
 
 # Each function: its result, and its arguments.
 FUNCTIONS: dict[str, tuple[Any, list[Any]]] = {
+    "dt_udp_params_for": (
+        ctypes.c_uint8,
+        [
+            ctypes.POINTER(_c.Network),
+            ctypes.POINTER(_c.Params),
+            ctypes.POINTER(ctypes.c_uint32),
+        ],
+    ),
     "dt_udp_abi_version": (ctypes.c_uint32, []),
     "dt_udp_fresh_number": (ctypes.c_uint32, []),
     "dt_udp_open": (ctypes.c_void_p, [ctypes.POINTER(Options), ctypes.POINTER(Error)]),
