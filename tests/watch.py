@@ -207,7 +207,9 @@ def is_stopped(pid: int) -> bool:
 
 QUICK = {"mpl": 60, "r": 100, "rto": 10, "charge": 44}
 # (one call at a time on a flow: then each request begins a run, which a receiver without a record takes)
-SMALL = {"flows": 16, "depth": 1, "octets": 1000, "seconds": 4}
+# (and where the machine stands for longer than r, answers are given up: the next calls mustn't wait for long, since a
+# stop is seen by what is sent after it)
+SMALL = {"flows": 16, "depth": 1, "octets": 1000, "seconds": 4, "timeout": 400}
 DISK = {"mpl": 400, "r": 300, "rto": 40, "charge": 44}
 DEEP: dict[str, float] = {"delay": 1000, "rate": 50, "queue": 40_000_000}
 
