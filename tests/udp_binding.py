@@ -375,6 +375,30 @@ def alarms() -> str:
     return ", ".join([*found, "CLOCK"])
 
 
+def recorded() -> str:
+    """Nodes that keep a record, with the watch: the record has the frames without their trailers."""
+    with tempfile.TemporaryDirectory() as folder:
+        ports, ends = (free_port(), free_port()), list[deltat.Udp]()
+        for number, at in ((1, 0), (2, 1)):
+            path = pathlib.Path(folder, str(number))
+            links, to = [deltat.Link(1, 294)], 3 - number
+            node = deltat.Recorded(path, number, PARAMS, links, {to: 1}, start=Start.FIRST)
+            ends.append(deltat.Udp(node, (HOST, ports[at]), {to: (HOST, ports[1 - at])}))
+        with ends[0] as one, ends[1] as two:
+            one.send(deltat.Flow(1, 10, 2, 20), b"hello")
+            found = list[deltat.Message]()
+            for _ in range(100):
+                found += two.poll(0.02)
+                one.poll(0.02)
+            wants([it.octets for it in found] == [b"hello"], f"{found} arrived")
+            wants(not one.alarms and not two.alarms and two.counts["openings_proved"] == 1, "both have a watch")
+        lines = pathlib.Path(folder, "2").read_text().splitlines()
+        frames = [bytes.fromhex(it.split()[-1]) for it in lines if it.startswith("< ") and it != "< -"]
+        wants(len(frames) > 0, "no frame is in the record")
+        wants(all(len(it) == 16 + int.from_bytes(it[2:4], "big") for it in frames), "a trailer is in the record")
+    return f"{len(frames)} frames"
+
+
 def large() -> str:
     """Requests and answers of 60,000 octets, more at once than one batch has room for: each gets its own."""
 
@@ -403,7 +427,7 @@ def large() -> str:
     return "12 calls"
 
 
-CASES = [calls, at_once, messages, uncertain, errors, neighbours, idle, unlisted, alarms, large]
+CASES = [calls, at_once, messages, uncertain, errors, neighbours, idle, unlisted, alarms, recorded, large]
 
 
 def main() -> int:
