@@ -235,7 +235,7 @@ const struct dt_udp_event *dt_udp_next_event(dt_udp *udp, int wait_ms);
 struct dt_send_result dt_udp_send(dt_udp *udp, const struct dt_flow *flow, const void *octets, size_t len);
 
 /* Makes a call, which ends within `timeout_ms` by an event; of a service. As dt_service_call. If as much is under way
- * to the target as its delay allows, the call waits in the driver, in the order of the calls, and its time passes.
+ * to the target as its delay allows, the call waits in the driver, behind those of its flow, and its time passes.
  *   DT_FULL      also: options.max_waiting octets wait already; DT_UDP_EVENT_ROOM follows in each case
  *   DT_NOT_OPEN  also: the driver is a node's, failed, or is in a forked child */
 struct dt_call_result dt_udp_call(dt_udp *udp, const struct dt_flow *flow, const void *octets, size_t len,

@@ -9,6 +9,7 @@ In tests/all: no words, 180 s."""
 import argparse
 import asyncio
 import contextlib
+import dataclasses
 import multiprocessing
 import os
 import pathlib
@@ -348,6 +349,79 @@ def unlisted() -> str:
     return "two lives"
 
 
+def bare(number: int, heard: bytes, sure_us: int) -> bytes:
+    """A ping of a node, to whoever sent the datagram `heard`: its clock had passed what that says and so much more."""
+    print_of, opening, made = heard[-34:-30], heard[-30:-24], int.from_bytes(heard[-22:-16], "big")
+    trailer = print_of + bytes(5) + b"\x07\x12\0" + (5_000_000).to_bytes(6, "big") + (made + sure_us).to_bytes(6, "big")
+    return number.to_bytes(4, "big") + trailer + opening[-2:] + b"\xff\xff" + bytes(6)
+
+
+def alarms() -> str:
+    """What the watch finds out of a peer is in `alarms`, in the log and in `counts`: an end without a watch, at both
+    ends; other parameters; and a clock that is wrong."""
+    flow, found = deltat.Flow(1, 10, 2, 20), []
+    for other, watch, alarm, counted in (
+        (PARAMS, False, deltat.Alarm.WATCH, ("without_trailer", "with_trailer")),
+        (dataclasses.replace(PARAMS, r=4000), True, deltat.Alarm.PARAMETERS, ("other_parameters",) * 2),
+    ):
+        ports = free_port(), free_port()
+        with (
+            driver.Udp(1, PARAMS, 294, HOST, ports[0], start=Start.FIRST) as one,
+            deltat.Udp(
+                deltat.Node(2, other, [deltat.Link(1, 294)], {1: 1}, start=Start.FIRST), (HOST, ports[1]),
+                {1: (HOST, ports[0])}, watch=watch,
+            ) as two,
+        ):
+            one.set_peer(2, HOST, ports[1])
+            one.open_port(20)
+            for _ in range(20):
+                with contextlib.suppress(deltat.Full):
+                    one.send(flow, b"one")
+                    two.send(flow.reversed(), b"two")
+                one.poll(0.02)
+                two.poll(0.02)
+            wants((one.alarms, two.alarms) == ({2: alarm}, {1: alarm}), f"{alarm!r}: {one.alarms}, {two.alarms}")
+            counts = one.counts[counted[0]], two.counts[counted[1]]
+            wants(min(counts) > 0, f"{alarm!r}: {counts} were counted")
+            found.append(alarm.name)
+    node = deltat.Node(1, PARAMS, [deltat.Link(1, 294)], {2: 1}, start=Start.FIRST)
+    with socket.socket(socket.AF_INET, socket.SOCK_DGRAM) as peer:
+        peer.bind((HOST, 0))
+        peer.settimeout(5)
+        with deltat.Udp(node, (HOST, 0), {2: peer.getsockname()}) as udp:
+            udp.send(flow, b"hello")
+            heard = peer.recv(2000)
+            for sure_us in (0, 60_000_000):
+                peer.sendto(bare(2, heard, sure_us), udp.socket.getsockname())
+                udp.poll(0.2)
+            wants(udp.alarms == {2: deltat.Alarm.CLOCK} and udp.counts["clock_alarms"] == 1, f"{udp.alarms}, {udp.counts}")
+    return ", ".join([*found, "CLOCK"])
+
+
+def recorded() -> str:
+    """Nodes that keep a record, with the watch: the record has the frames without their trailers."""
+    with tempfile.TemporaryDirectory() as folder:
+        ports, ends = (free_port(), free_port()), list[deltat.Udp]()
+        for number, at in ((1, 0), (2, 1)):
+            path = pathlib.Path(folder, str(number))
+            links, to = [deltat.Link(1, 294)], 3 - number
+            node = deltat.Recorded(path, number, PARAMS, links, {to: 1}, start=Start.FIRST)
+            ends.append(deltat.Udp(node, (HOST, ports[at]), {to: (HOST, ports[1 - at])}))
+        with ends[0] as one, ends[1] as two:
+            one.send(deltat.Flow(1, 10, 2, 20), b"hello")
+            found = list[deltat.Message]()
+            for _ in range(100):
+                found += two.poll(0.02)
+                one.poll(0.02)
+            wants([it.octets for it in found] == [b"hello"], f"{found} arrived")
+            wants(not one.alarms and not two.alarms and two.counts["openings_proved"] == 1, "both have a watch")
+        lines = pathlib.Path(folder, "2").read_text().splitlines()
+        frames = [bytes.fromhex(it.split()[-1]) for it in lines if it.startswith("< ") and it != "< -"]
+        wants(len(frames) > 0, "no frame is in the record")
+        wants(all(len(it) == 16 + int.from_bytes(it[2:4], "big") for it in frames), "a trailer is in the record")
+    return f"{len(frames)} frames"
+
+
 def large() -> str:
     """Requests and answers of 60,000 octets, more at once than one batch has room for: each gets its own."""
 
@@ -466,7 +540,7 @@ def short() -> str:
     return f"{ran} clients"
 
 
-CASES = [calls, at_once, messages, uncertain, errors, neighbours, idle, unlisted, large, short]
+CASES = [calls, at_once, messages, uncertain, errors, neighbours, idle, unlisted, alarms, recorded, large, short]
 
 
 def main() -> int:

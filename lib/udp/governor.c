@@ -13,8 +13,10 @@ enum {
     BASE_SPAN_US = 8000000,
     LEAST_ROUND_US = 500,
     UNPACED_US = 4000, /* shorter ways than this can't be paced by a clock of milliseconds */
-    FEW_SEGMENTS = 8,
+    HEADERS = 92, /* octets */
     BURST_SEGMENTS = 16,
+    FIRST_ROUNDS = 3, /* in which no loss is counted */
+    PROBE_ROUNDS = 64, /* beside others: after so many it is tried whether they are still there */
     LONG_ABOVE = 6,  /* rounds above the aim after which others are taken to fill the queue */
     NAMED = 4096,    /* buckets */
     FLOWS = 4096,    /* buckets */
@@ -22,6 +24,19 @@ enum {
 };
 
 /* --- what is under way */
+
+/* So many octets with the headers of the datagrams that they leave in: of IP, UDP, the frame, and the trailer. */
+static uint64_t wire_of(const dt_udp *u, uint64_t octets) {
+    uint64_t seg = u->options.params->seg;
+    return octets + (octets + seg - 1) / seg * HEADERS;
+}
+
+/* So many octets to a peer are settled: of their headers the share that they have on the average. */
+static void settle(dt_udp *u, struct watch *it, uint64_t octets) {
+    it->on_wire -= octets < it->under_way ? it->on_wire * octets / it->under_way : it->on_wire;
+    it->under_way -= octets;
+    u->governing.counted -= octets;
+}
 
 /* Takes off octets that were given up: first of peers from which nothing came for rto, then of any. (Seldom, so all
  * peers may be gone through.) */
@@ -33,8 +48,7 @@ static void take_off(dt_udp *u, uint64_t octets) {
                 struct watch *it = peer->watch;
                 if (it == NULL || (!any && it->governor.heard_us > silent_us)) continue;
                 uint64_t off = octets < it->under_way ? octets : it->under_way;
-                it->under_way -= off;
-                u->governing.counted -= off;
+                settle(u, it, off);
                 octets -= off;
             }
 }
@@ -51,10 +65,9 @@ void dtu_govern_count(dt_udp *u, struct peer *peer) {
     struct watch *it = peer ? peer->watch : NULL;
     if (it) {
         it->under_way += more;
+        it->on_wire += wire_of(u, more);
         g->counted += more;
-        uint64_t own = less < it->under_way ? less : it->under_way;
-        it->under_way -= own;
-        g->counted -= own;
+        settle(u, it, less < it->under_way ? less : it->under_way);
     }
     if (g->counted > queued - settled) take_off(u, g->counted - (queued - settled));
 }
@@ -73,23 +86,62 @@ void dtu_govern_begin(struct governor *g, uint64_t now_us) {
                            .credit_us = now_us, .fast = true};
 }
 
+/* The longest delay in queues that is ever let pass: half of what the life leaves, and so little that nothing goes again
+ * that wasn't lost. (dt_watch_aim keeps within that.) */
+static uint64_t most_target(const dt_udp *u, uint64_t base, uint64_t aim) {
+    const struct dt_params *p = u->options.params;
+    uint64_t budget = 1000 * (uint64_t)p->mpl, resend = 750 * (uint64_t)p->rto;
+    uint64_t half = budget > base ? (budget - base) / 2 : 0, left = resend > base ? resend - base : 0;
+    uint64_t most = half < left ? half : left;
+    return most > aim ? most : aim;
+}
+
+/* Whether others fill the queue, by that of this round: it stayed above the aim though the window shrank. Then more and
+ * more of it is let pass. */
+static bool is_beside_others(const dt_udp *u, struct governor *g, uint64_t queue, uint64_t aim) {
+    if (queue < aim / 2 || g->target_us < aim) {
+        g->above = g->beside = 0;
+        g->target_us = aim;
+    }
+    if (queue > aim && g->above < LONG_ABOVE) g->above++;
+    if (g->above < LONG_ABOVE) return false;
+    uint64_t most = most_target(u, base_of(g), aim), more = g->target_us + g->target_us / 4;
+    g->target_us = more < most ? more : most;
+    g->beside++;
+    return true;
+}
+
+/* How many datagrams of a round were lost, and how many left in it. */
+static int lost_of(struct watch *it, uint16_t heard, uint16_t *went) {
+    struct governor *g = &it->governor;
+    uint16_t lost = (uint16_t)(g->sent_then - heard);
+    int more = (int16_t)(lost - g->lost_before);
+    *went = (uint16_t)(g->sent_then - g->sent_before);
+    g->lost_before = lost;
+    g->sent_before = g->sent_then;
+    g->sent_then = it->sent;
+    if (g->rounds == FIRST_ROUNDS) return more;
+    g->rounds++; /* (what waited until its age was known wasn't counted as heard) */
+    return 0;
+}
+
 /* A round of ours is over: what was sent in it was heard. The window follows its delay in queues. */
 static void end_round(dt_udp *u, struct watch *it, uint16_t heard, uint64_t now_us) {
     struct governor *g = &it->governor;
     uint64_t base = base_of(g), mean = g->sum_us / g->count, queue = mean > base ? mean - base : 0, aim = aim_of(u, g);
-    uint16_t lost = (uint16_t)(g->sent_then - heard), went = (uint16_t)(g->sent_then - g->sent_before);
-    int more = (int16_t)(lost - g->lost_before);
-    bool lossy = more >= 3 && went && more * 20 > went && queue > aim / 8; /* losses without a queue aren't ours */
-    uint64_t target = g->above >= LONG_ABOVE && 2 * aim < (uint64_t)u->options.params->mpl * 250 ? 2 * aim : aim;
-    if (queue < aim / 2) g->above = 0;
-    if (lossy) (void)dt_watch_shrink(it->rules, (uint32_t)(more * 1000 / went));
-    else if (queue > target) (void)dt_watch_shrink(it->rules, dt_watch_cut(queue, base, target));
-    else if (g->limited) (void)dt_watch_grow(it->rules, g->fast && queue < aim / 2);
+    uint16_t went;
+    int more = lost_of(it, heard, &went);
+    bool beside = is_beside_others(u, g, queue, aim), probes = beside && g->beside % PROBE_ROUNDS < 2;
+    /* losses without a queue aren't ours, and beside others few of them are */
+    bool lossy = more >= 3 && went && more * (beside ? 4 : 20) > went && queue > aim / 8;
+    if (probes) (void)dt_watch_shrink(it->rules, 500); /* (if the queue was ours, it is empty then) */
+    else if (lossy) (void)dt_watch_shrink(it->rules, (uint32_t)(more * 1000 / went));
+    else if (queue > g->target_us) (void)dt_watch_shrink(it->rules, dt_watch_cut(queue, base, g->target_us));
+    else if (g->limited) {
+        (void)dt_watch_grow(it->rules, g->fast && queue < aim / 2);
+        if (g->fast && queue < aim / 4) (void)dt_watch_grow(it->rules, true);
+    }
     if (lossy || queue > aim / 2) g->fast = false;
-    if (queue > aim && g->above < LONG_ABOVE) g->above++;
-    g->lost_before = lost;
-    g->sent_before = g->sent_then;
-    g->sent_then = it->sent;
     g->sum_us = g->count = 0;
     g->limited = false;
     g->round_us = now_us;
@@ -151,8 +203,9 @@ bool dtu_govern_admits(dt_udp *u, struct peer *peer, uint64_t octets) {
     if (it == NULL) return true;
     uint64_t now_us = dtu_clock_us();
     halve_if_silent(it, now_us);
-    if (3 * (it->under_way + octets) > 2 * dt_watch_window(it->rules)) it->governor.limited = true;
-    return dt_watch_admits(it->rules, it->under_way, octets) && is_paced(u, it, octets, now_us);
+    octets = wire_of(u, octets);
+    if (3 * (it->on_wire + octets) > 2 * dt_watch_window(it->rules)) it->governor.limited = true;
+    return dt_watch_admits(it->rules, it->on_wire, octets) && is_paced(u, it, octets, now_us);
 }
 
 /* --- flows for which something waits */
@@ -347,7 +400,7 @@ static enum entry enter_first(dt_udp *u, struct peer *peer, struct waiting_flow 
     if (!dtu_begin(u, us)) return NOT_NOW;
     enum entry how = it->is_call ? enter_call(u, it, now) : enter_reply(u, it, now);
     dtu_judge(u);
-    if (how == FLOW_IS_FULL) peer->watch->governor.credit += (int64_t)len; /* (nothing left, so it takes no pace) */
+    if (how == FLOW_IS_FULL) peer->watch->governor.credit += (int64_t)wire_of(u, len); /* (nothing left, so it takes no pace) */
     if (how != ENTERED) return how;
     flow->first = next;
     if (next == NULL) flow->last = NULL;

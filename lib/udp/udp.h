@@ -107,9 +107,12 @@ struct governor {
     uint64_t base[2]; /* the least delay of this span and of the last one; DT_NEVER: none was measured */
     uint64_t turned_us, round_us, heard_us, credit_us;
     uint64_t sum_us, count; /* delays of this round */
+    uint64_t target_us;     /* the delay in queues that is let pass: the aim, or more while others fill them */
     int64_t credit;         /* octets that the pace lets go */
     uint16_t sent_then, sent_before, lost_before;
     uint8_t above; /* rounds in a row whose delay was above the aim */
+    uint8_t rounds; /* that ended, up to FIRST_ROUNDS */
+    uint8_t beside; /* rounds in which others filled the queue */
     bool fast, limited;
 };
 
@@ -119,6 +122,7 @@ struct watch {
     uint64_t present, next; /* the names of its present opening, and of one that isn't proved; 0: none */
     uint64_t pinged_us;     /* when it was last asked */
     uint64_t under_way;     /* octets that were handed in and aren't settled */
+    uint64_t on_wire;       /* the same with the headers of their datagrams: what the window counts */
     struct waiting_flows ready;    /* flows for which something waits for the window, each in its turn */
     struct waiting_flows full;     /* those that had no room of their own when so many octets were settled: */
     uint64_t full_at;

@@ -7,8 +7,9 @@
  * Keys: port peer_port node peer again life flags mpl r rto charge seg seconds flows depth octets answer log; delay_us:
  * the parameters and the charge are those of dt_udp_params_for, for a round trip of trip_us; run: the upper half of the
  * numbers of requests; held: of 1,000 calls of the socket that send data once more, how many are preceded by a SIGSTOP of
- * this process; clock: a file whose first eight octets are the ns by which the clock stood; datagrams: it ends
- * when it has read so many. Each number is printed with its name. */
+ * this process; clock: a file whose first eight octets are the ns by which the clock stood; datagrams: it ends when it has
+ * read so many; calls: it makes so many, and prints how long they took; host, peer_host: addresses; learns: how many peers
+ * a service may learn; timeout: of each call, in ms. Each number is printed with its name. */
 #include "deltat_udp.h"
 #include <errno.h>
 #include <fcntl.h>
@@ -28,7 +29,8 @@ enum { CALLER = 1000, SERVICE = 20, MOST = 65528, MOST_FLOWS = 256 };
 struct end {
     dt_udp *udp;
     char **words;
-    uint32_t node, peer, flows, depth, octets, answer, run, made, answered, unsure, alarms;
+    uint32_t node, peer, flows, depth, octets, answer, run, made, answered, unsure, alarms, calls, timeout;
+    uint64_t took_ms, in_time;
     uint32_t under_way[MOST_FLOWS];
     int log;
     uint8_t room[MOST];
@@ -162,11 +164,11 @@ static uint64_t milliseconds(void) {
 
 static void make_calls(struct end *it) {
     for (uint32_t flow = 0; flow < it->flows; flow++) {
-        while (it->under_way[flow] < it->depth) {
+        while (it->under_way[flow] < it->depth && it->made < it->calls) {
             struct dt_flow to = {it->node, it->peer, (uint16_t)(CALLER + flow), SERVICE};
             uint64_t id = (uint64_t)it->run << 32 | it->made;
             memcpy(it->room, &id, sizeof id);
-            if (dt_udp_call(it->udp, &to, it->room, it->octets, 20000).status != DT_OK) break;
+            if (dt_udp_call(it->udp, &to, it->room, it->octets, it->timeout).status != DT_OK) break;
             it->made++;
             it->under_way[flow]++;
         }
@@ -199,12 +201,15 @@ static void note_ends(struct end *it, uint32_t before) {
 }
 
 static void ask(struct end *it) {
-    uint64_t end = milliseconds() + 1000 * (uint64_t)number(it, "seconds", 5), patience = end + 4000;
+    uint64_t begun = milliseconds(), end = begun + 1000 * (uint64_t)number(it, "seconds", 5), patience = end + 4000;
     uint64_t most = number(it, "datagrams", UINT32_MAX);
     for (uint64_t now; !stopped && (now = milliseconds()) < patience;) {
         if (dt_udp_get_counts(it->udp)->datagrams_in >= most) end = now;
         if (now >= end && it->answered + it->unsure == it->made) break;
-        if (now < end) make_calls(it);
+        if (now < end) {
+            make_calls(it);
+            it->in_time = it->answered;
+        }
         dt_udp_flush(it->udp);
         uint32_t before = it->answered + it->unsure;
         handle(it, dt_udp_next_event(it->udp, 20));
@@ -214,6 +219,10 @@ static void ask(struct end *it) {
             handle(it, event);
         }
         note_ends(it, before);
+        if (it->answered == it->calls) {
+            it->took_ms = milliseconds() - begun;
+            return;
+        }
     }
 }
 
@@ -243,16 +252,17 @@ static void open_end(struct end *it, bool asks) {
     uint32_t charge;
     struct dt_params params = params_of(it, &charge);
     judged.charge = charge;
-    struct dt_udp_options options = {.size = sizeof options, .node = it->node, .host = "127.0.0.1",
+    struct dt_udp_options options = {.size = sizeof options, .node = it->node, .host = word(it, "host", "127.0.0.1"),
                                      .port = word(it, "port", NULL), .params = &params,
                                      .charge = charge, .role = DT_UDP_ROLE_SERVICE,
                                      .start_as = number(it, "again", 0) ? DT_UDP_START_AGAIN : DT_UDP_START_FIRST,
                                      .life = number(it, "life", 1), .flags = number(it, "flags", 0),
-                                     .max_calls = 100000, .max_requests = 100000, .max_requests_per_flow = 1000};
+                                     .max_calls = 100000, .max_requests = 100000, .max_requests_per_flow = 1000,
+                                     .max_peers = number(it, "learns", 0)};
     struct dt_udp_error error;
     it->udp = dt_udp_open(&options, &error);
     if (it->udp == NULL) die(error.text);
-    if (dt_udp_set_peer(it->udp, it->peer, "127.0.0.1", word(it, "peer_port", "1"), &error)) die(error.text);
+    if (dt_udp_set_peer(it->udp, it->peer, word(it, "peer_host", "127.0.0.1"), word(it, "peer_port", "1"), &error)) die(error.text);
     for (uint32_t flow = 0; flow < (asks ? it->flows : 1); flow++)
         if (dt_udp_open_port(it->udp, (uint16_t)(asks ? CALLER + flow : SERVICE),
                              asks ? DT_PORT_CALLER : DT_PORT_SERVICE) != DT_OK)
@@ -275,10 +285,10 @@ static void tell(const struct end *it) {
            " without_trailer %" PRIu64 " too_old %" PRIu64 " ages_unknown %" PRIu64 " other_parameters %" PRIu64
            " clock_alarms %" PRIu64 " former %" PRIu64 " early %" PRIu64 " proved %" PRIu64 " pings_in %" PRIu64
            " pings_out %" PRIu64 " late %" PRIu64 " false_drops %" PRIu64 " longest_us %" PRIu64 " spare_us %" PRIu64
-           " false_until_us %" PRIu64 "\n",
+           " false_until_us %" PRIu64 " took_ms %" PRIu64 " in_time %" PRIu64 "\n",
            it->made, it->answered, it->unsure, it->alarms, c->datagrams_in, c->datagrams_out, c->unknown, c->not_sent,
            c->without_trailer, c->too_old, c->ages_unknown, c->other_parameters, c->clock_alarms, c->former_openings,
-           c->early_openings, c->openings_proved, c->pings_in, c->pings_out, judged.late, judged.false_drops, judged.longest, judged.spare, judged.last);
+           c->early_openings, c->openings_proved, c->pings_in, c->pings_out, judged.late, judged.false_drops, judged.longest, judged.spare, judged.last, it->took_ms, it->in_time);
 }
 
 int main(int count, char **words) {
@@ -293,6 +303,8 @@ int main(int count, char **words) {
     it.octets = number(&it, "octets", 64);
     it.answer = number(&it, "answer", 8);
     it.run = number(&it, "run", 1);
+    it.calls = number(&it, "calls", UINT32_MAX);
+    it.timeout = number(&it, "timeout", 20000);
     if (it.flows > MOST_FLOWS || it.octets > MOST || it.octets < 8) die("flows or octets");
     it.log = word(&it, "log", NULL) ? open(word(&it, "log", ""), O_WRONLY | O_CREAT | O_APPEND, 0600) : -1;
     held = number(&it, "held", 0);

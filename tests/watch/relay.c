@@ -7,7 +7,8 @@
  *                       arrives later, that arrive later only; from, to: how much later, in ms; deaf: for so many ms
  *                       of each 2 s nothing arrives at `to_a`
  *
- * What arrives at `a` leaves `b` for `to_b`, and the other way round. Until SIGTERM; then it prints what it did. */
+ * What arrives at `a` leaves `b` for `to_b`, and the other way round. Until SIGTERM; then it prints what it did. With
+ * tun_a and tun_b, descriptors of TUN devices, it carries whole packets between these instead, of TCP too. */
 #include <arpa/inet.h>
 #include <errno.h>
 #include <inttypes.h>
@@ -20,6 +21,7 @@
 #include <string.h>
 #include <sys/socket.h>
 #include <time.h>
+#include <unistd.h>
 
 enum { BATCH = 64, ROOM = 9216, RING = 1 << 16, MOST_LATE = 1 << 14 };
 
@@ -35,6 +37,7 @@ struct way {
     struct packet *ring; /* RING of them */
     uint32_t head, tail;
     uint64_t free_at; /* when the link has sent what waits */
+    bool is_tun;
 };
 
 struct late {
@@ -49,6 +52,7 @@ struct relay {
     uint64_t delay, queue, from, to, lose, lose_back, copy, keep, deaf, longest;
     double octets_each_ns;
     uint64_t went, lost, crowded, copied, kept;
+    uint64_t of_udp, udp_crowded; /* of a TUN device: packets of UDP */
 };
 
 static volatile sig_atomic_t stopped;
@@ -101,22 +105,36 @@ static void keep_back(struct relay *r, struct way *way, const uint8_t *octets, s
     if (r->late_count < MOST_LATE) r->late[r->late_count++] = (struct late){copy_of(octets, len, now + later), way};
 }
 
+static bool is_udp(const struct way *way, const uint8_t *octets) { return way->is_tun && octets[9] == 17; }
+
 static void queue_up(struct relay *r, struct way *way, const uint8_t *octets, size_t len, uint64_t now) {
     uint64_t leaves = now;
     if (r->octets_each_ns > 0) {
         if (way->free_at < now) way->free_at = now;
         if ((double)(way->free_at - now) * r->octets_each_ns + (double)len > (double)r->queue) {
             r->crowded++;
+            r->udp_crowded += is_udp(way, octets);
             return;
         }
         if (way->free_at - now > r->longest) r->longest = way->free_at - now;
-        leaves = way->free_at += (uint64_t)((double)(len + 28) / r->octets_each_ns);
+        leaves = way->free_at += (uint64_t)((double)(len + (way->is_tun ? 0 : 28)) / r->octets_each_ns);
     }
     if (way->tail - way->head == RING) {
         r->crowded++;
         return;
     }
     way->ring[way->tail++ % RING] = copy_of(octets, len, leaves + r->delay);
+}
+
+/* Reads packets of a TUN device: how many. */
+static int read_tun(const struct way *way, struct mmsghdr *heads) {
+    int count = 0;
+    for (; count < BATCH; count++) {
+        ssize_t len = read(way->in, heads[count].msg_hdr.msg_iov->iov_base, ROOM);
+        if (len <= 0) break;
+        heads[count].msg_len = (unsigned)len;
+    }
+    return count;
 }
 
 static void take(struct relay *r, struct way *way) {
@@ -127,11 +145,12 @@ static void take(struct relay *r, struct way *way) {
         parts[i] = (struct iovec){rooms[i], ROOM};
         heads[i] = (struct mmsghdr){.msg_hdr = {.msg_iov = &parts[i], .msg_iovlen = 1}};
     }
-    int count = recvmmsg(way->in, heads, BATCH, MSG_DONTWAIT, NULL);
+    int count = way->is_tun ? read_tun(way, heads) : recvmmsg(way->in, heads, BATCH, MSG_DONTWAIT, NULL);
     uint64_t now = now_ns();
     for (int i = 0; i < count; i++) {
         size_t len = heads[i].msg_len;
         r->went++;
+        r->of_udp += is_udp(way, rooms[i]);
         bool copied = happens(r->copy), kept = happens(r->keep);
         if (copied || kept) keep_back(r, way, rooms[i], len, now);
         r->copied += copied;
@@ -144,7 +163,8 @@ static void take(struct relay *r, struct way *way) {
 }
 
 static void give(struct way *way, struct packet *it) {
-    (void)sendto(way->out, it->octets, it->len, MSG_DONTWAIT, (struct sockaddr *)&way->to, sizeof way->to);
+    if (!way->is_tun) (void)sendto(way->out, it->octets, it->len, MSG_DONTWAIT, (struct sockaddr *)&way->to, sizeof way->to);
+    else if (write(way->out, it->octets, it->len) < 0 && errno != EIO && errno != ENOBUFS) die("relay: a packet");
     free(it->octets);
 }
 
@@ -174,9 +194,10 @@ int main(int count, char **words) {
     static struct relay r;
     if (count < 5) return fprintf(stderr, "usage: relay KEY=VALUE..\n"), 2;
     words++;
-    int a = bound(number(words, "a", 0)), b = bound(number(words, "b", 0));
-    r.ways[0] = (struct way){.in = a, .out = b, .to = at_port(number(words, "to_b", 0))};
-    r.ways[1] = (struct way){.in = b, .out = a, .to = at_port(number(words, "to_a", 0))};
+    int tun_a = (int)number(words, "tun_a", 0), tun_b = (int)number(words, "tun_b", 0);
+    int a = tun_a ? tun_a : bound(number(words, "a", 0)), b = tun_b ? tun_b : bound(number(words, "b", 0));
+    r.ways[0] = (struct way){.in = a, .out = b, .to = at_port(number(words, "to_b", 0)), .is_tun = tun_a != 0};
+    r.ways[1] = (struct way){.in = b, .out = a, .to = at_port(number(words, "to_a", 0)), .is_tun = tun_b != 0};
     r.delay = (uint64_t)(number(words, "delay", 0) * 1000);
     r.octets_each_ns = number(words, "rate", 0) / 8000;
     r.queue = (uint64_t)number(words, "queue", 40e6);
@@ -199,7 +220,8 @@ int main(int count, char **words) {
         struct pollfd wanted[2] = {{a, POLLIN, 0}, {b, POLLIN, 0}};
         (void)ppoll(wanted, 2, &(struct timespec){0, next > now ? (long)(next - now) : 0}, NULL);
     }
-    printf("went %" PRIu64 " lost %" PRIu64 " crowded %" PRIu64 " copied %" PRIu64 " kept %" PRIu64 " queue_us %" PRIu64 "\n",
-           r.went, r.lost, r.crowded, r.copied, r.kept, r.longest / 1000);
+    printf("went %" PRIu64 " lost %" PRIu64 " crowded %" PRIu64 " copied %" PRIu64 " kept %" PRIu64 " queue_us %" PRIu64
+           " of_udp %" PRIu64 " udp_crowded %" PRIu64 "\n",
+           r.went, r.lost, r.crowded, r.copied, r.kept, r.longest / 1000, r.of_udp, r.udp_crowded);
     return 0;
 }
