@@ -66,7 +66,7 @@ _INVALID = {
 }
 
 
-LONGEST_AWAY = 0.004
+LONGEST_AWAY = 0.002
 """If the socket wasn't looked at for so many seconds, a call has it looked at."""
 _FIRST_USER = 1 << 63
 """The users of calls by `Calls` are counted from here on; those that a program gives to `Service.call` are lower."""
