@@ -1,19 +1,21 @@
 #!/usr/bin/env python3
 """The driver over UDP, libdeltat-udp, beside plain UDP, ENet and TCP.
 
-`bench/driver.py [--runs N] [--seconds S] [--only NAME ..] [--links DELAY:LOSS ..]`; it wants `make -C lib`. The programs are those of bench/peers
-(peer.h says what is asked), one process at each end with one thread each. The peers take turns, N runs (5) each:
+`bench/driver.py [--runs N] [--seconds S] [--only NAME ..] [--links DELAY:LOSS ..]`; it wants `make -C lib`. The
+programs are those of bench/peers (peer.h says what is asked), one process at each end with one thread each. The peers
+take turns, N runs (5) each:
 
-- answers: requests of 100 octets, answered by 100 octets, for S seconds (2), with 1, 32, 1,000 or 4,000 under way: how many
-  a second, and the microseconds of processor that one takes at both ends;
+- answers: requests of 100 octets, answered by 100 octets, for S seconds (2), with 1, 32, 1,000 or 4,000 under way: how
+  many a second, and the microseconds of processor that one takes at both ends;
 - 64 KiB: messages of 65,524 octets, one after another: how many a second;
 - calls from Python by deltat.Calls, one after another, and by AsyncCalls 32 and 1,000 at once, to a service in C;
 - with --links (`--links 20:0 20:1 20:5`), over tests/wan.py with so many ms each way and so many of 100 packets lost:
   objects of 64 KiB and of 16 MiB over 64 lanes from a node that the other one doesn't know, three one after another,
   and as many octets over one connection of TCP: the seconds of the first one and of the best one after it.
 
-`same` is UDP with the very datagrams that two nodes exchange, acknowledgements too. The best run counts, since others may
-load the machine; the load is printed. A peer that can't be built here is left out. Ends with 2 where the library isn't there."""
+`same` is UDP with the very datagrams that two nodes exchange, acknowledgements too. The best run counts, since others
+may load the machine; the load is printed. A peer that can't be built here is left out. Ends with 2 where the library
+isn't there."""
 import argparse
 import os
 import pathlib
@@ -157,8 +159,7 @@ def asked(folder: pathlib.Path, peer: Peer, what: str, seconds: float) -> tuple[
 
 
 def from_python(folder: pathlib.Path, many: int, seconds: float) -> tuple[float, float]:
-    # (a node that Python opened has no watch, and so its service has none)
-    serving, port = server(folder, PEERS["calls, no watch"])
+    serving, port = server(folder, PEERS["calls"])
     env = {**os.environ, "PYTHONPATH": str(TOP / "bindings" / "python")}
     ran = subprocess.run(
         [sys.executable, "-c", PYTHON, port, str(seconds), str(many)],
@@ -212,7 +213,8 @@ def links(folder: pathlib.Path, given: argparse.Namespace) -> None:
                 later = sorted(it for found in runs for it in found[1:])
                 text = f"first {first[0]:.3f} s, later {later[0]:.3f} s" if first and later else "none arrived"
                 all_of_them = "; ".join(" ".join(f"{it:.3f}" for it in found) for found in runs)
-                print(f"{link.replace(':', ' ms, ')} %  {octets:>10,} octets  {name:8} {text}   ({all_of_them})", flush=True)
+                where = f"{link.replace(':', ' ms, ')} %  {octets:>10,} octets"
+                print(f"{where}  {name:8} {text}   ({all_of_them})", flush=True)
 
 
 def line(name: str, found: list[tuple[float, float]], base: float) -> str:

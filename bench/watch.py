@@ -79,12 +79,12 @@ def main() -> int:
         skip("there is no compiler, or lib/libdeltat.a isn't built (make -C lib)")
     with tempfile.TemporaryDirectory(prefix="deltat-watch-") as folder:
         programs = Programs(pathlib.Path(folder))
-        for row in rows(words.seconds, words.rate):
+        for place, row in enumerate(rows(words.seconds, words.rate)):
             if words.only not in row.name:
                 continue
             for run in range(words.runs):
                 for name, flags in (("without", WITHOUT_WATCH), ("with", 0)):
-                    print(f"{row.name:32} {name:8} {line_of(programs, row, flags, 100 * run + flags)}", flush=True)
+                    print(f"{row.name:32} {name:8} {line_of(programs, row, flags, 1000 * place + 100 * run + flags)}", flush=True)
     return 0
 
 

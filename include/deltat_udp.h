@@ -129,7 +129,7 @@ enum dt_udp_event_kind {
                                    `system_error`) */
     DT_UDP_EVENT_REPLY_UNCERTAIN = 10, /* `flow`: as DT_EVENT_REPLY_UNCERTAIN of deltat.h */
     DT_UDP_EVENT_ALARM = 11,    /* nothing of `peer` passes any more, as `cause` says */
-    DT_UDP_EVENT_ROOM = 12      /* after a DT_FULL: there may be room again */
+    DT_UDP_EVENT_ROOM = 12      /* after a DT_FULL of any call: there may be room again */
 };
 
 enum dt_udp_alarm { /* `cause` of DT_UDP_EVENT_ALARM: once for each opening of the peer */
@@ -236,8 +236,8 @@ const struct dt_udp_event *dt_udp_next_event(dt_udp *udp, int wait_ms);
 struct dt_send_result dt_udp_send(dt_udp *udp, const struct dt_flow *flow, const void *octets, size_t len);
 
 /* Makes a call, which ends within `timeout_ms` by an event; of a service. As dt_service_call. If as much is under way
- * to the target as its delay allows, the call waits in the driver, in the order of the calls, and its time passes.
- *   DT_FULL      also: options.max_waiting octets wait already; DT_UDP_EVENT_ROOM follows
+ * to the target as its delay allows, the call waits in the driver, behind those of its flow, and its time passes.
+ *   DT_FULL      also: options.max_waiting octets wait already; DT_UDP_EVENT_ROOM follows in each case
  *   DT_NOT_OPEN  also: the driver is a node's, failed, or is in a forked child */
 struct dt_call_result dt_udp_call(dt_udp *udp, const struct dt_flow *flow, const void *octets, size_t len,
                            uint32_t timeout_ms);

@@ -1,12 +1,13 @@
 #!/usr/bin/env python3
 """The driver over UDP sockets, libdeltat-udp, with the address and undefined-behaviour sanitizers.
 
-`tests/udp.py [--clients N] [CASE ..]`; all cases where none is named. It builds lib/udp with tests/udp/*.c over lib/libdeltat.a and
-runs them as processes over 127.0.0.1, ::1 and `localhost`, under the driver's own wait, poll, epoll and GLib's loop;
-through a relay that loses 1 %; with an end that is killed and started again; in a forked child; with services that the program opened; over a path that is
-too narrow for a segment; and with strangers: sixteen thousand that come and go, N (2,000) behind one address, as a
-gateway with nft's masquerade gives it to them, one whose address changes, and forgers; the state folder; and objects. Ends with 77 where there is no compiler or no archive; a case whose tool is missing
-says so.
+`tests/udp.py [--clients N] [CASE ..]`; all cases where none is named. It builds lib/udp with tests/udp/*.c over
+lib/libdeltat.a and runs them as processes over 127.0.0.1, ::1 and `localhost`, under the driver's own wait, poll, epoll
+and GLib's loop; through a relay that loses 1 %; with an end that is killed and started again; in a forked child; with
+services that the program opened; until there is no room, and again; over a path that is too narrow for a segment; and
+with strangers: sixteen thousand that come and go, N (2,000) behind one address, as a gateway with nft's masquerade gives
+it to them, one whose address changes, and forgers; the state folder; and objects. Ends with 77 where there is no
+compiler or no archive; a case whose tool is missing says so. `tests/udp.py --clients 10000 masqueraded` takes a minute.
 
 In tests/all: no words, 1200 s."""
 import argparse
@@ -322,7 +323,16 @@ def loss(built: Built, folder: pathlib.Path) -> str:
     relay = Relay(0.01, server_port)
     relay.start()
     server = End(
-        built("ends"), "serve", "epoll", host=HOST, port=server_port, node=2, r=3000, peer=1, peer_port=relay.far_port, log=log
+        built("ends"),
+        "serve",
+        "epoll",
+        host=HOST,
+        port=server_port,
+        node=2,
+        r=3000,
+        peer=1,
+        peer_port=relay.far_port,
+        log=log,
     )
     client = End(
         built("ends"),
@@ -397,7 +407,7 @@ def killed(built: Built, folder: pathlib.Path) -> str:
 
 
 def stopped(built: Built, folder: pathlib.Path) -> str:
-    """Each end is stopped (SIGSTOP) for longer than a datagram may be under way: what waited in its socket counts as old."""
+    """Each end is stopped (SIGSTOP) for longer than a datagram may be under way: what waited in its socket is old."""
     ports, log = (free_port(), free_port()), folder / "stopped.log"
     server = End(built("ends"), "serve", "next", host=HOST, port=ports[0], node=2, peer=1, peer_port=ports[1], log=log)
     asks = {"count": 20000, "many": 8, "timeout": 8000}
@@ -446,6 +456,16 @@ def driven(built: Built, folder: pathlib.Path) -> str:
     found = re.fullmatch(r"answered 3000 most (\d+)\n", ran.stdout)
     wants(ran.returncode == 0 and found and int(found[1]) > 1, ran.stdout + ran.stderr[-2000:])
     return f"3000 calls, up to {found[1]} events in a batch"
+
+
+def room(built: Built, folder: pathlib.Path) -> str:
+    """Calls, messages and objects are refused when their settings are reached, an event says when there is room again,
+    each call has its own user at its end, and a drain waits until nothing is outstanding."""
+    words = [built("room"), str(free_port())]
+    ran = subprocess.run(words, capture_output=True, text=True, timeout=PATIENCE, check=False)
+    found = [figures(it) for it in ran.stdout.splitlines()]
+    wants(ran.returncode == 0 and len(found) == 3, ran.stdout + ran.stderr[-2000:])
+    return ", ".join(ran.stdout.splitlines())
 
 
 def narrow(built: Built, folder: pathlib.Path) -> str:
@@ -528,7 +548,8 @@ def gateway() -> Iterator[tuple[tuple[str, ...], tuple[str, ...]]]:
         nft add table ip t
         nft add chain ip t p '{{ type nat hook postrouting priority 100; }}'
         nft add rule ip t p oifname s0 meta l4proto udp masquerade to :40000-44095
-        {' '.join(clients)} sh -c 'ip address add 10.77.0.2/16 dev c1; ip link set c1 up; ip route add default via 10.77.0.1'
+        {' '.join(clients)} sh -ec 'ip address add 10.77.0.2/16 dev c1; ip link set c1 up
+            ip route add default via 10.77.0.1'
         {' '.join(service)} sh -c 'ip address add 10.78.0.2/24 dev s1; ip link set s1 up'
         """
         subprocess.run([*own, "sh", "-ec", script], check=True, capture_output=True, text=True)
@@ -558,7 +579,8 @@ def masqueraded(built: Built, folder: pathlib.Path) -> str:
     wants(len(served) == len(set(served)) == 10 * each, f"{len(served)} were served, {len(set(served))} of them different")
     wants(found["learnt"] >= 10 * each and found["forgotten"] >= 5 * each, str(found))
     wants(max(sizes[6:]) < 1.25 * max(sizes[2:5]), f"the service grew: {sizes} KiB")
-    return f"{10 * each} clients, {sizes[0]} to {sizes[-1]} KiB resident, {found['challenges']} challenges"
+    grew = " ".join(map(str, sizes))
+    return f"{10 * each} clients, {found['challenges']} challenges; KiB resident after each tenth: {grew}"
 
 
 def rebinds(built: Built, folder: pathlib.Path) -> str:
@@ -635,9 +657,12 @@ class Stranger:
             return found
 
     def challenged(self) -> bytes:
-        """The challenge that answers a frame, which is all that does."""
+        """The challenge that answers a frame, which is all that does. (Who was heard before may get what it was sent
+        then.)"""
         self.frame()
         found = self.answers() or self.answers()
+        if self.number:
+            found = [it for it in found if it[0] not in (1, 2)]
         wants(len(found) == 1 and found[0][:3] == bytes([208, 1, 1]) and len(found[0]) == 28, f"no challenge: {found}")
         return found[0]
 
@@ -835,6 +860,7 @@ CASES: list[Callable[[Built, pathlib.Path], str]] = [
     forked,
     threads,
     driven,
+    room,
     narrow,
     learnt,
     masqueraded,

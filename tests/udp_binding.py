@@ -9,10 +9,12 @@ In tests/all: no words, 180 s."""
 import argparse
 import asyncio
 import contextlib
+import dataclasses
 import multiprocessing
 import os
 import pathlib
 import socket
+import subprocess
 import sys
 import tempfile
 import threading
@@ -204,7 +206,7 @@ def messages() -> str:
 
 
 def uncertain() -> str:
-    """A client that goes before its answer arrives: the service learns that its reply was given up, and of which flow."""
+    """A client that goes before its answer arrives: the service learns of which flow a reply was given up."""
     with opened(2, free_port(), max_peers=1) as udp:
         udp.open_port(SERVICE, PortKind.SERVICE)
         calls = driver.Calls(udp)
@@ -264,6 +266,17 @@ def node_of(number: int, links: list[int], routes: dict[int, int]) -> deltat.Nod
     return deltat.Node(number, PARAMS, [deltat.Link(it, 294) for it in links], routes, start=Start.FIRST)
 
 
+def arrives(udp: deltat.Udp, end: socket.socket, target: int) -> bool:
+    """Whether a datagram for a node arrives there. (A machine that others load may drop one as late: it goes again.)"""
+    until = time.monotonic() + 20
+    while time.monotonic() < until:
+        with contextlib.suppress(TimeoutError):
+            if int.from_bytes(end.recv(2000)[12:16], "big") == target:
+                return True
+        udp.poll(0.0)
+    return False
+
+
 def neighbours() -> str:
     """A node with two links and two neighbours: what leaves for nodes behind them goes to the right one, what comes
     from behind them is taken in, and what comes from elsewhere isn't."""
@@ -271,15 +284,16 @@ def neighbours() -> str:
         near, far, strange = (ends.enter_context(socket.socket(socket.AF_INET, socket.SOCK_DGRAM)) for _ in range(3))
         for it in (near, far, strange):
             it.bind((HOST, 0))
-            it.settimeout(5)
+            it.settimeout(0.1)
         node = node_of(1, [7, 8, 9], {2: 7, 3: 7, 4: 8, 5: 8, 6: 9})
-        udp = ends.enter_context(deltat.Udp(node, (HOST, 0), {2: near.getsockname(), 4: far.getsockname()}, watch=False))
+        peers = {2: near.getsockname(), 4: far.getsockname()}
+        udp = ends.enter_context(deltat.Udp(node, (HOST, 0), peers, watch=False))
         for target, end in ((2, near), (3, near), (4, far), (5, far)):
             udp.send(deltat.Flow(1, 10, target, 20), b"to %d" % target)
-            octets = end.recv(2000)
-            wants(int.from_bytes(octets[12:16], "big") == target, f"what is for {target} goes to its neighbour")
+            wants(arrives(udp, end, target), f"what is for {target} goes to its neighbour")
+        late = udp.not_sent
         udp.send(deltat.Flow(1, 10, 6, 20), b"nowhere")
-        wants(udp.not_sent == 1, "a link without a neighbour: its datagram isn't sent, and is counted")
+        wants(udp.not_sent > late, "a link without a neighbour: its datagram isn't sent, and is counted")
         for maker, end, is_heard in ((3, near, True), (4, far, True), (5, far, True), (2, strange, False)):
             other = node_of(maker, [1], {1: 1})
             other.send(deltat.Flow(maker, 30, 1, 40), b"from %d" % maker)
@@ -291,7 +305,8 @@ def neighbours() -> str:
 
 
 def idle() -> str:
-    """Nothing is due and nothing comes: a wait of 2.3 s takes as long, and one without end ends when a datagram comes."""
+    """Nothing is due and nothing comes: a wait takes as long as it may, and one without end ends when a datagram
+    comes."""
     with (
         socket.socket(socket.AF_INET, socket.SOCK_DGRAM) as near,
         deltat.Udp(node_of(1, [1], {2: 1}), (HOST, 0), {2: (HOST, free_port())}) as udp,
@@ -334,6 +349,79 @@ def unlisted() -> str:
     return "two lives"
 
 
+def bare(number: int, heard: bytes, sure_us: int) -> bytes:
+    """A ping of a node, to whoever sent the datagram `heard`: its clock had passed what that says and so much more."""
+    print_of, opening, made = heard[-34:-30], heard[-30:-24], int.from_bytes(heard[-22:-16], "big")
+    trailer = print_of + bytes(5) + b"\x07\x12\0" + (5_000_000).to_bytes(6, "big") + (made + sure_us).to_bytes(6, "big")
+    return number.to_bytes(4, "big") + trailer + opening[-2:] + b"\xff\xff" + bytes(6)
+
+
+def alarms() -> str:
+    """What the watch finds out of a peer is in `alarms`, in the log and in `counts`: an end without a watch, at both
+    ends; other parameters; and a clock that is wrong."""
+    flow, found = deltat.Flow(1, 10, 2, 20), []
+    for other, watch, alarm, counted in (
+        (PARAMS, False, deltat.Alarm.WATCH, ("without_trailer", "with_trailer")),
+        (dataclasses.replace(PARAMS, r=4000), True, deltat.Alarm.PARAMETERS, ("other_parameters",) * 2),
+    ):
+        ports = free_port(), free_port()
+        with (
+            driver.Udp(1, PARAMS, 294, HOST, ports[0], start=Start.FIRST) as one,
+            deltat.Udp(
+                deltat.Node(2, other, [deltat.Link(1, 294)], {1: 1}, start=Start.FIRST), (HOST, ports[1]),
+                {1: (HOST, ports[0])}, watch=watch,
+            ) as two,
+        ):
+            one.set_peer(2, HOST, ports[1])
+            one.open_port(20)
+            for _ in range(20):
+                with contextlib.suppress(deltat.Full):
+                    one.send(flow, b"one")
+                    two.send(flow.reversed(), b"two")
+                one.poll(0.02)
+                two.poll(0.02)
+            wants((one.alarms, two.alarms) == ({2: alarm}, {1: alarm}), f"{alarm!r}: {one.alarms}, {two.alarms}")
+            counts = one.counts[counted[0]], two.counts[counted[1]]
+            wants(min(counts) > 0, f"{alarm!r}: {counts} were counted")
+            found.append(alarm.name)
+    node = deltat.Node(1, PARAMS, [deltat.Link(1, 294)], {2: 1}, start=Start.FIRST)
+    with socket.socket(socket.AF_INET, socket.SOCK_DGRAM) as peer:
+        peer.bind((HOST, 0))
+        peer.settimeout(5)
+        with deltat.Udp(node, (HOST, 0), {2: peer.getsockname()}) as udp:
+            udp.send(flow, b"hello")
+            heard = peer.recv(2000)
+            for sure_us in (0, 60_000_000):
+                peer.sendto(bare(2, heard, sure_us), udp.socket.getsockname())
+                udp.poll(0.2)
+            wants(udp.alarms == {2: deltat.Alarm.CLOCK} and udp.counts["clock_alarms"] == 1, f"{udp.alarms}, {udp.counts}")
+    return ", ".join([*found, "CLOCK"])
+
+
+def recorded() -> str:
+    """Nodes that keep a record, with the watch: the record has the frames without their trailers."""
+    with tempfile.TemporaryDirectory() as folder:
+        ports, ends = (free_port(), free_port()), list[deltat.Udp]()
+        for number, at in ((1, 0), (2, 1)):
+            path = pathlib.Path(folder, str(number))
+            links, to = [deltat.Link(1, 294)], 3 - number
+            node = deltat.Recorded(path, number, PARAMS, links, {to: 1}, start=Start.FIRST)
+            ends.append(deltat.Udp(node, (HOST, ports[at]), {to: (HOST, ports[1 - at])}))
+        with ends[0] as one, ends[1] as two:
+            one.send(deltat.Flow(1, 10, 2, 20), b"hello")
+            found = list[deltat.Message]()
+            for _ in range(100):
+                found += two.poll(0.02)
+                one.poll(0.02)
+            wants([it.octets for it in found] == [b"hello"], f"{found} arrived")
+            wants(not one.alarms and not two.alarms and two.counts["openings_proved"] == 1, "both have a watch")
+        lines = pathlib.Path(folder, "2").read_text().splitlines()
+        frames = [bytes.fromhex(it.split()[-1]) for it in lines if it.startswith("< ") and it != "< -"]
+        wants(len(frames) > 0, "no frame is in the record")
+        wants(all(len(it) == 16 + int.from_bytes(it[2:4], "big") for it in frames), "a trailer is in the record")
+    return f"{len(frames)} frames"
+
+
 def large() -> str:
     """Requests and answers of 60,000 octets, more at once than one batch has room for: each gets its own."""
 
@@ -362,7 +450,97 @@ def large() -> str:
     return "12 calls"
 
 
-CASES = [calls, at_once, messages, uncertain, errors, neighbours, idle, unlisted, large]
+PLAIN_SERVICE = """
+import sys
+import deltat
+from deltat import PortKind, driver
+
+with driver.Udp(2, PARAMS, charge=294, port=sys.argv[1], state=sys.argv[2], max_peers=1000, service=True) as udp:
+    udp.open_port(20, PortKind.SERVICE)
+    calls = driver.Calls(udp)
+
+    @calls.on(20)
+    def octets_reversed(request: deltat.Request) -> bytes:
+        return request.payload[::-1]
+
+    calls.run()
+"""
+PLAIN_CLIENT = """
+import sys
+import deltat
+from deltat import PortKind, Start, driver
+
+number = deltat.fresh_number()
+with driver.Udp(number, PARAMS, charge=294, start=Start.FIRST, service=True) as udp:
+    udp.set_peer(2, sys.argv[2], sys.argv[1])
+    udp.open_port(10, PortKind.CALLER)
+    print(driver.Calls(udp).call(deltat.Flow(number, 10, 2, 20), sys.argv[3].encode(), timeout=20.0).decode())
+"""
+ASYNC_SERVICE = """
+import asyncio
+import sys
+import deltat
+from deltat import PortKind, driver
+
+
+async def main() -> None:
+    with driver.Udp(2, PARAMS, charge=294, port=sys.argv[1], state=sys.argv[2], max_peers=1000, service=True) as udp:
+        udp.open_port(20, PortKind.SERVICE)
+        async with driver.AsyncCalls(udp) as calls:
+
+            @calls.on(20)
+            async def octets_reversed(request: deltat.Request) -> bytes:
+                return request.payload[::-1]
+
+            await calls.run()
+
+
+asyncio.run(main())
+"""
+ASYNC_CLIENT = """
+import asyncio
+import sys
+import deltat
+from deltat import PortKind, Start, driver
+
+
+async def main() -> None:
+    number = deltat.fresh_number()
+    with driver.Udp(number, PARAMS, charge=294, start=Start.FIRST, service=True) as udp:
+        udp.set_peer(2, sys.argv[2], sys.argv[1])
+        udp.open_port(10, PortKind.CALLER)
+        async with driver.AsyncCalls(udp) as calls:
+            print((await calls.call(deltat.Flow(number, 10, 2, 20), sys.argv[3].encode(), timeout=20.0)).decode())
+
+
+asyncio.run(main())
+"""
+
+
+def short() -> str:
+    """A service and a client of at most 30 lines each, plain and in asyncio, over 127.0.0.1, ::1 and a name."""
+    env = {**os.environ, "PYTHONPATH": str(TOP / "bindings" / "python")}
+
+    def words(program: str, *more: object) -> list[str]:
+        wants(sum(1 for it in program.split("\n") if it.strip()) <= 30, "a program has more than 30 lines")
+        return [sys.executable, "-c", program.replace("PARAMS", f"deltat.{PARAMS}"), *map(str, more)]
+
+    ran = 0
+    for service, client in ((PLAIN_SERVICE, ASYNC_CLIENT), (ASYNC_SERVICE, PLAIN_CLIENT)):
+        with tempfile.TemporaryDirectory() as folder:
+            port = free_port()
+            with subprocess.Popen(words(service, port, folder), env=env) as serves:
+                time.sleep(1)
+                for host in ("127.0.0.1", "::1", "localhost"):
+                    asks = words(client, port, host, f"hello {host}")
+                    found = subprocess.run(asks, env=env, capture_output=True, text=True, timeout=60, check=False)
+                    wants(found.stdout == f"hello {host}"[::-1] + "\n", f"{host}: {found.stdout}{found.stderr}")
+                    ran += 1
+                serves.kill()
+    return f"{ran} clients"
+
+
+CASES = [calls, at_once, messages, uncertain, errors, neighbours, idle, unlisted, alarms, recorded, large, short]
 
 
 def main() -> int:

@@ -1,8 +1,9 @@
 #!/usr/bin/env python3
 """Each system call of the driver over UDP fails, once at each of its first calls: by `strace --inject`.
 
-`tests/udp_faults.py [CALL ..]`; all calls where none is named. A client of tests/udp/ends.c makes calls to a service
-while one of its system calls fails. Then all its calls are answered; or it isn't opened, and one line says why; or it
+`tests/udp_faults.py [CALL ..]`; all calls where none is named, `driven` for those of tests/udp/driven.c. A client of
+tests/udp/ends.c makes calls to a service, or both ends that tests/udp/driven.c opened by deltat.h exchange calls, while
+one of the system calls fails. Then all its calls are answered; or it isn't opened, and one line says why; or it
 gets a failure as an event, with the error of that call. It never hangs, crashes, or takes a wrong answer. Ends with
 77 where there is no strace, no compiler or no archive.
 
@@ -32,6 +33,8 @@ class Fault(NamedTuple):
     ends: tuple[str, ...]
     loop: str = "poll"
     keys: dict[str, object] = {}
+    # both ends in one program, which opened the nodes
+    is_driven: bool = False
 
 
 MESSAGES = {"octets": 20000, "count": 20, "many": 4}
@@ -64,6 +67,21 @@ FAULTS = [
     Fault("readlink", "EACCES ENOENT", 2, (OK,), "poll", {"state": True}),
     Fault("getdents64", "EIO", 1, (REFUSED,), "poll", {"state": True}),
 ]
+FAULTS += [
+    it._replace(is_driven=True)
+    for it in (
+        Fault("socket", "EMFILE EAFNOSUPPORT ENOMEM", 2, (REFUSED,)),
+        Fault("setsockopt", "ENOPROTOOPT EPERM", 12, (OK, REFUSED)),
+        Fault("bind", "EADDRINUSE EACCES", 2, (REFUSED,)),
+        Fault("recvmmsg", "EAGAIN EINTR ENOMEM ENOBUFS ECONNREFUSED", 6, (OK,)),
+        Fault("recvmmsg", "EBADF EIO ENOSYS", 3, (FAILED,)),
+        Fault("sendmsg", "EAGAIN EINTR ENOBUFS EPERM ENETUNREACH EIO EMSGSIZE", 4, (OK,)),
+        Fault("sendmmsg", "EAGAIN EINTR ENOBUFS EPERM EINVAL EIO", 2, (OK,)),
+        Fault("getrandom", "EINTR ENOSYS", 8, (OK, REFUSED)),
+        Fault("madvise", "EINVAL", 2, (OK,)),
+        Fault("mmap", "ENOMEM", 40, (OK, REFUSED, FAILED, "not begun")),
+    )
+]
 
 
 def outcome(ran: "subprocess.CompletedProcess[str]", count: int, fault_of_loader: bool) -> str:
@@ -72,13 +90,13 @@ def outcome(ran: "subprocess.CompletedProcess[str]", count: int, fault_of_loader
     found = udp.figures(ran.stdout)
     if ran.returncode == 0 and "too big" in ran.stdout:
         return "too big"
-    if ran.returncode == 0 and found.get("answered") == count and found.get("wrong") == 0:
+    if ran.returncode == 0 and found.get("answered") == count and found.get("wrong", 0) == 0:
         return OK
     if ran.returncode == 0 and found.get("declined") == count:
         return "declined"
-    if ran.returncode == 1 and re.fullmatch(r"ends: [^\n]{10,}\n", ran.stderr):
+    if ran.returncode == 1 and re.fullmatch(r"(ends|driven): [^\n]{10,}\n", ran.stderr):
         return REFUSED
-    if ran.returncode == 3 and re.fullmatch(r"ends: failed: status \d+, [^\n]+\n", ran.stderr):
+    if ran.returncode == 3 and re.fullmatch(r"(ends|driven): failed: status \d+, [^\n]+\n", ran.stderr):
         return FAILED
     if (
         ran.returncode == 127
@@ -105,16 +123,9 @@ def tried(fault: Fault, error: str, at: int, program: str, port: int, folder: pa
         "-e",
         f"inject={fault.call}:error={error}:when={at}",
     ]
-    words += [
-        program,
-        "ask",
-        fault.loop,
-        f"host={HOST}",
-        f"node={node}",
-        "peer=2",
-        f"peer_port={port}",
-        *(f"{key}={value}" for key, value in keys.items()),
-    ]
+    asks = ["ask", fault.loop, f"host={HOST}", f"node={node}", "peer=2", f"peer_port={port}"]
+    asks += [f"{key}={value}" for key, value in keys.items()]
+    words += [program, *([str(keys["count"])] if fault.is_driven else asks)]
     try:
         ran = subprocess.run(words, capture_output=True, text=True, timeout=udp.PATIENCE, check=False)
     except subprocess.TimeoutExpired:
@@ -133,21 +144,23 @@ def main() -> int:
     wrong = ran = 0
     with tempfile.TemporaryDirectory(prefix="deltat-udp-faults-") as name:
         folder = pathlib.Path(name)
-        program = udp.Built(folder)("ends", plain=True)
+        built = udp.Built(folder)
+        program, driven = (built(it, plain=True) for it in ("ends", "driven"))
         server = udp.End(program, "serve", "next", host=HOST, node=2, learns=1000, r=3000)
         for fault in FAULTS:
-            if given.calls and fault.call not in given.calls:
+            if given.calls and fault.call not in given.calls and not (fault.is_driven and "driven" in given.calls):
                 continue
             seen: dict[str, int] = {}
             for error in fault.errors.split():
                 for at in range(1, fault.times + 1):
-                    found, ran = tried(fault, error, at, program, server.port, folder), ran + 1
+                    runs = driven if fault.is_driven else program
+                    found, ran = tried(fault, error, at, runs, server.port, folder), ran + 1
                     seen[found] = seen.get(found, 0) + 1
                     if found not in fault.ends:
                         wrong += 1
                         print(f"{fault.call} {at}, {error}, {fault.loop}: {found}", flush=True)
             print(
-                f"{fault.call} ({fault.errors}): {', '.join(f'{count} {end}' for end, count in seen.items())}",
+                f"{'driven: ' * fault.is_driven}{fault.call} ({fault.errors}): {', '.join(f'{count} {end}' for end, count in seen.items())}",
                 flush=True,
             )
         server.stop()

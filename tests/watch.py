@@ -59,6 +59,7 @@ class Ended(NamedTuple):
     twice: int
     client: dict[str, int]
     server: dict[str, int]
+    stops: int  # times that the client's clock stood
 
     def counted(self, name: str) -> int:
         return self.client.get(name, 0) + self.server.get(name, 0)
@@ -87,7 +88,12 @@ class Programs:
         self.folder = folder
         self.made = 0
         codec = [str(TOP / "lib" / "udp" / f"{it}.c") for it in ("trailer", "octets")]
-        for name, more in (("relay", ()), ("form", codec), ("ends", (WRAPPED, *map(str, ARCHIVES)))):
+        for name, more in (
+            ("relay", ()),
+            ("form", codec),
+            ("ends", (WRAPPED, *map(str, ARCHIVES))),
+            ("turns", tuple(map(str, ARCHIVES))),
+        ):
             words = [COMPILER, *FLAGS, str(HERE / f"{name}.c"), *more, "-o", str(folder / name)]
             ran = subprocess.run(words, capture_output=True, text=True, check=False)
             if ran.returncode:
@@ -121,7 +127,7 @@ class Run:
         self.log = programs.folder / f"log-{seed}"
         self.clock = programs.folder / f"clock-{seed}"
         self.ports = [free_port() for _ in range(4)]
-        self.lives = 0
+        self.lives = self.stops = 0
         self.counts: collections.Counter[str] = collections.Counter()
 
     def serve(self) -> subprocess.Popen[str]:
@@ -149,7 +155,6 @@ class Run:
     def watch(self, client: subprocess.Popen[str], server: subprocess.Popen[str]) -> subprocess.Popen[str]:
         """Waits for the client. What stopped itself goes on after 0.4 s; the service is started again."""
         begun = restarted = time.monotonic()
-        stops = 0
         while client.poll() is None and time.monotonic() - begun < self.patience:
             if self.link.client.get("held") and is_stopped(client.pid):
                 time.sleep(0.4)
@@ -157,8 +162,8 @@ class Run:
             if self.link.restart and time.monotonic() - restarted > self.link.restart:
                 self.counts.update(ended(server))
                 server, restarted = self.serve(), time.monotonic()
-            if stops < self.link.stops and time.monotonic() - begun > 1 + 0.9 * stops:
-                stops += 1
+            if self.stops < self.link.stops and time.monotonic() - begun > 1 + 0.9 * self.stops:
+                self.stops += 1
                 self.stand(client)
             time.sleep(0.01)
         return server
@@ -177,7 +182,18 @@ class Run:
         finally:
             for it in (relay, server, client):
                 it.kill()
-        return Ended(*requests(self.log), client_says, dict(self.counts))
+        return Ended(*requests(self.log), client_says, dict(self.counts), self.stops)
+
+
+def whole(programs: Programs, link: Link, flags: int, seed: int) -> Ended:
+    """A run in which all that was meant happened: where the machine itself stood for seconds, the client ends before its
+    clock stood, and there was nothing to find. Then it is run once more."""
+    for again in range(3):
+        it = Run(programs, link, flags, seed + 400 * again)()
+        if it.stops == link.stops and (it.handed or it.counted("other_parameters")):
+            return it
+        print(f"the machine stood: {it}", file=sys.stderr)
+    raise AssertionError("the machine stands again and again")
 
 
 def is_stopped(pid: int) -> bool:
@@ -191,7 +207,9 @@ def is_stopped(pid: int) -> bool:
 
 QUICK = {"mpl": 60, "r": 100, "rto": 10, "charge": 44}
 # (one call at a time on a flow: then each request begins a run, which a receiver without a record takes)
-SMALL = {"flows": 16, "depth": 1, "octets": 1000, "seconds": 4}
+# (and where the machine stands for longer than r, answers are given up: the next calls mustn't wait for long, since a
+# stop is seen by what is sent after it)
+SMALL = {"flows": 16, "depth": 1, "octets": 1000, "seconds": 4, "timeout": 400}
 DISK = {"mpl": 400, "r": 300, "rto": 40, "charge": 44}
 DEEP: dict[str, float] = {"delay": 1000, "rate": 50, "queue": 40_000_000}
 
@@ -222,12 +240,12 @@ def runs_of(case: str, programs: Programs, runs: int) -> str:
     for place, link in enumerate(LINKS[case]):
         counted = handed = 0
         for seed in range(runs):
-            it = Run(programs, link, 0, 1000 * place + seed)()
+            it = whole(programs, link, 0, 1000 * place + seed)
             assert it.twice == 0, f"{it.twice} of {it.handed} requests were handed out twice: {it}"
             assert it.counted(COUNTERS[case]) > 0, f"{COUNTERS[case]} counted nothing: {it}"
             counted += it.counted(COUNTERS[case])
             handed += it.handed
-        bare = [Run(programs, link, WITHOUT_WATCH, 5000 + 1000 * place + seed)() for seed in range(TRIES)]
+        bare = [whole(programs, link, WITHOUT_WATCH, 5000 + 1000 * place + seed) for seed in range(TRIES)]
         shown = ", ".join(f"{it.twice} of {it.handed}" for it in bare)
         assert sum(it.twice > 0 for it in bare) >= BROKEN, f"without the watch too little breaks: {shown}"
         told.append(f"nothing twice in {runs} runs ({handed} requests, {COUNTERS[case]} {counted}); without it {shown}")
@@ -248,6 +266,24 @@ def form(programs: Programs) -> str:
         good = octets[10] in (0x11, 0x12, 0x13) and octets[4:10] != bytes(6)
         assert line.split()[-1] == (octets.hex() if good else "none"), f"{octets.hex()} is read as {line}"
     return f"{len(given)} trailers"
+
+
+def turns(programs: Programs) -> str:
+    """A hundred calls of 32 KiB on one flow, which has room for one: a call on another flow of the same peer isn't held
+    up by them, and a call whose time is over ends though others wait before it."""
+    ports = [free_port() for _ in range(4)]
+    relay = programs.start("relay", a=ports[1], b=ports[2], to_a=ports[0], to_b=ports[3], delay=5000, rate=50)
+    keys = {"mpl": 800, "r": 1200, "rto": 150, "charge": 300}
+    server = programs.start("ends", "serve", port=ports[3], peer_port=ports[2], **keys)
+    client = programs.start("turns", str(ports[0]), str(ports[1]))
+    try:
+        said = numbers(client.communicate(timeout=PATIENCE)[0])
+    finally:
+        for it in (client, server, relay):
+            it.kill()
+    assert said.get("answered") == 100, f"{said}"
+    assert said["before"] <= 15 and said["late"] == 0, f"the other flow's call was held up: {said}"
+    return f"the call on another flow ended after {said['before']} of 100"
 
 
 # paths: what the relay does, the longest delay and a usual round trip in us, and what is under way
@@ -289,7 +325,7 @@ def main() -> int:
     cases: dict[str, Callable[[Programs], str]] = {
         it: (lambda programs, it=it: runs_of(it, programs, words.runs)) for it in LINKS
     }
-    cases["form"] = form
+    cases["form"], cases["turns"] = form, turns
     cases["drops"] = lambda programs: drops(programs, words.datagrams)
     if unknown := set(words.cases) - set(cases):
         parser.error(f"no case {', '.join(sorted(unknown))}")

@@ -90,8 +90,8 @@ dt_status dt_udp_next_batch(dt_udp *u, int wait_ms, struct dt_udp_batch *b) {
     }
     if (u->core.node && !u->core.driven) return DT_INVALID;
     u->interrupted = false;
+    if (!make(u, b)) wait_ms = 0; /* (first, so that what it makes has its own time) */
     dtu_driven_begin(u);
-    if (!make(u, b)) wait_ms = 0;
     fill(u, wait_ms < 0 ? DT_NEVER : dtu_clock_ms() + (uint64_t)wait_ms, b);
     dtu_write_all(u);
     dtu_loop_arm(u);

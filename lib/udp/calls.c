@@ -75,6 +75,14 @@ static struct iovec payload_of(const void *octets, size_t len) {
     return (struct iovec){(void *)(uintptr_t)(octets ? octets : &NONE), octets ? len : 0};
 }
 
+/* Has an event say when there may be room again in a flow that was full. */
+static void note_full(dt_udp *u, dt_status status) {
+    uint64_t queued;
+    if (status != DT_FULL) return;
+    dtu_core_totals(&u->core, &queued, &u->settled_then);
+    u->wants_room = true;
+}
+
 struct dt_send_result dt_udp_send(dt_udp *u, const struct dt_flow *flow, const void *octets, size_t len) {
     uint64_t at = 0;
     dt_status status = begin(u, u->core.node, &at);
@@ -82,12 +90,13 @@ struct dt_send_result dt_udp_send(dt_udp *u, const struct dt_flow *flow, const v
     struct iovec payload = payload_of(octets, len);
     struct peer *peer = dtu_peers_find(&u->peers, flow->target);
     if (dtu_govern_waits(u, peer, flow, len)) {
-        u->governing.wants_room = true;
+        note_full(u, DT_FULL); /* (something is under way, so something will be settled) */
         struct dt_send_result full = {.status = DT_FULL};
         dtu_count_send(u, &full);
         return full;
     }
     struct dt_send_result sent = dtu_core_send(&u->core, at, flow, &payload);
+    note_full(u, sent.status);
     dtu_judge(u);
     dtu_events_collect(u, at);
     dtu_govern_count(u, peer);
@@ -165,6 +174,7 @@ struct dt_call_result dt_udp_make_call(dt_udp *u, const struct dt_udp_call_optio
     }
     made = dtu_core_make_call(&u->core, at, o, &payload);
     if (made.status == DT_OK) u->open_calls++;
+    note_full(u, made.status);
     dtu_judge(u);
     dtu_govern_count(u, peer);
     dtu_count_call(u, &made);
@@ -191,6 +201,7 @@ struct dt_reply_result dt_udp_reply(dt_udp *u, const struct dt_token *token, con
         return replied;
     }
     replied = dtu_core_reply(&u->core, at, token, &payload);
+    note_full(u, replied.status);
     dtu_judge(u);
     dtu_govern_count(u, peer);
     dtu_count_reply(u, &replied);

@@ -183,11 +183,22 @@ static bool next_of_governor(dt_udp *u) {
     return true;
 }
 
+/* A flow was full, and something was acknowledged or given up since. */
+static bool next_room(dt_udp *u) {
+    uint64_t queued, settled;
+    if (!u->wants_room) return false;
+    dtu_core_totals(&u->core, &queued, &settled);
+    if (settled == u->settled_then) return false;
+    u->wants_room = false;
+    u->event.kind = DT_UDP_EVENT_ROOM;
+    return true;
+}
+
 /* Makes the next thing that happened the event, but for alarms; the octets of a service's are in the room, of
  * DT_MAX_PAYLOAD octets. False: nothing happened. */
 bool dtu_events_next(dt_udp *u, uint8_t *room) {
     memset(&u->event, 0, sizeof u->event);
-    bool some = next_too_big(u) || next_of_governor(u) || next_report(u) || dtu_objects_event(u) ||
+    bool some = next_too_big(u) || next_of_governor(u) || next_room(u) || next_report(u) || dtu_objects_event(u) ||
                 (u->core.service ? next_of_service(u, room) : next_message(u));
     if (some) dtu_count_event(u, u->event.kind, u->event.cause, u->event.call);
     return some;

@@ -13,7 +13,7 @@ enum {
     BASE_SPAN_US = 8000000,
     LEAST_ROUND_US = 500,
     UNPACED_US = 4000, /* shorter ways than this can't be paced by a clock of milliseconds */
-    FEW_SEGMENTS = 8,
+    HEADERS = 92, /* octets */
     BURST_SEGMENTS = 16,
     FIRST_ROUNDS = 3, /* in which no loss is counted */
     PROBE_ROUNDS = 64, /* beside others: after so many it is tried whether they are still there */
@@ -25,6 +25,19 @@ enum {
 
 /* --- what is under way */
 
+/* So many octets with the headers of the datagrams that they leave in: of IP, UDP, the frame, and the trailer. */
+static uint64_t wire_of(const dt_udp *u, uint64_t octets) {
+    uint64_t seg = u->options.params->seg;
+    return octets + (octets + seg - 1) / seg * HEADERS;
+}
+
+/* So many octets to a peer are settled: of their headers the share that they have on the average. */
+static void settle(dt_udp *u, struct watch *it, uint64_t octets) {
+    it->on_wire -= octets < it->under_way ? it->on_wire * octets / it->under_way : it->on_wire;
+    it->under_way -= octets;
+    u->governing.counted -= octets;
+}
+
 /* Takes off octets that were given up: first of peers from which nothing came for rto, then of any. (Seldom, so all
  * peers may be gone through.) */
 static void take_off(dt_udp *u, uint64_t octets) {
@@ -35,8 +48,7 @@ static void take_off(dt_udp *u, uint64_t octets) {
                 struct watch *it = peer->watch;
                 if (it == NULL || (!any && it->governor.heard_us > silent_us)) continue;
                 uint64_t off = octets < it->under_way ? octets : it->under_way;
-                it->under_way -= off;
-                u->governing.counted -= off;
+                settle(u, it, off);
                 octets -= off;
             }
 }
@@ -53,10 +65,9 @@ void dtu_govern_count(dt_udp *u, struct peer *peer) {
     struct watch *it = peer ? peer->watch : NULL;
     if (it) {
         it->under_way += more;
+        it->on_wire += wire_of(u, more);
         g->counted += more;
-        uint64_t own = less < it->under_way ? less : it->under_way;
-        it->under_way -= own;
-        g->counted -= own;
+        settle(u, it, less < it->under_way ? less : it->under_way);
     }
     if (g->counted > queued - settled) take_off(u, g->counted - (queued - settled));
 }
@@ -192,8 +203,9 @@ bool dtu_govern_admits(dt_udp *u, struct peer *peer, uint64_t octets) {
     if (it == NULL) return true;
     uint64_t now_us = dtu_clock_us();
     halve_if_silent(it, now_us);
-    if (3 * (it->under_way + octets) > 2 * dt_watch_window(it->rules)) it->governor.limited = true;
-    return dt_watch_admits(it->rules, it->under_way, octets) && is_paced(u, it, octets, now_us);
+    octets = wire_of(u, octets);
+    if (3 * (it->on_wire + octets) > 2 * dt_watch_window(it->rules)) it->governor.limited = true;
+    return dt_watch_admits(it->rules, it->on_wire, octets) && is_paced(u, it, octets, now_us);
 }
 
 /* --- flows for which something waits */
@@ -388,7 +400,7 @@ static enum entry enter_first(dt_udp *u, struct peer *peer, struct waiting_flow 
     if (!dtu_begin(u, us)) return NOT_NOW;
     enum entry how = it->is_call ? enter_call(u, it, now) : enter_reply(u, it, now);
     dtu_judge(u);
-    if (how == FLOW_IS_FULL) peer->watch->governor.credit += (int64_t)len; /* (nothing left, so it takes no pace) */
+    if (how == FLOW_IS_FULL) peer->watch->governor.credit += (int64_t)wire_of(u, len); /* (nothing left, so it takes no pace) */
     if (how != ENTERED) return how;
     flow->first = next;
     if (next == NULL) flow->last = NULL;

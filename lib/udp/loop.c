@@ -89,7 +89,7 @@ void dtu_loop_turn(dt_udp *u, int wait_ms) {
         if (wait_ms < 0 || left < (uint64_t)wait_ms) wait_ms = left < LONGEST_WAIT_MS ? (int)left : LONGEST_WAIT_MS;
     }
     dtu_read_socket(u, wait_ms);
-    uint64_t us = u->in.came_us;
+    uint64_t us = dtu_clock_us();
     u->turned_at = us / 1000;
     dtu_strangers_greet(u, us / 1000);
     tick(u, us);

@@ -124,6 +124,7 @@ struct watch {
     uint64_t present, next; /* the names of its present opening, and of one that isn't proved; 0: none */
     uint64_t pinged_us;     /* when it was last asked */
     uint64_t under_way;     /* octets that were handed in and aren't settled */
+    uint64_t on_wire;       /* the same with the headers of their datagrams: what the window counts */
     struct waiting_flows ready;    /* flows for which something waits for the window, each in its turn */
     struct waiting_flows full;     /* those that had no room of their own when so many octets were settled: */
     uint64_t full_at;
@@ -408,6 +409,8 @@ struct dt_udp {
     bool unread;           /* messages stay in the node, since too many octets wait for dt_udp_next_event */
     uint64_t quiet_until;  /* the node is silent until then */
     uint64_t open_calls;   /* whose end wasn't handed out */
+    bool wants_room;       /* a flow was full, and the program wasn't told of room since */
+    uint64_t settled_then; /* how many octets were acknowledged or uncertain when it was */
     uint64_t heard_at;     /* when a datagram was last passed in */
     uint64_t input_at;     /* the greatest reading of an input */
     uint64_t ticked_at;    /* when the node last did what is due */

@@ -88,7 +88,8 @@ static struct watch *new_watch(dt_udp *u, uint64_t now) {
     if (it == NULL) return NULL;
     it->rules = (dt_watch *)(void *)((uint8_t *)it + head);
     dt_watch_init(it->rules);
-    uint64_t gap = (dtu_core_quiet_ms(u->options.params) - u->options.params->mpl) * 1000;
+    /* (at a neighbour's address one node after another may begin, each with a number that nobody had) */
+    uint64_t gap = u->core.driven ? 0 : (dtu_core_quiet_ms(u->options.params) - u->options.params->mpl) * 1000;
     struct dt_watch_options options = {.size = sizeof options,
                                        .fingerprint = u->watching.print,
                                        .now = now,

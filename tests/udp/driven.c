@@ -1,6 +1,7 @@
 /* Services that a program opened by deltat.h, and the driver drives: a client makes calls, many under way, and a
  * service answers them, both by dt_udp_next_batch, in one thread. `driven CALLS`; prints `answered CALLS`, and how many
- * events one batch had at most. The keeper and the hooks are called, and what can't be done is refused. */
+ * events one batch had at most. The keeper and the hooks are called, and what can't be done is refused. If the system
+ * refuses a call it ends with 1 and says why a driver isn't opened, or with 3 and says why one failed. */
 #include "deltat_udp.h"
 #include <stdio.h>
 #include <stdlib.h>
@@ -88,7 +89,7 @@ static void drive(struct end *it, uint32_t node, bool hooked) {
                                    .links = LINKS, .link_count = 1,
                                    .hooks = hooked ? &it->hooks : NULL};
     it->udp = dt_udp_drive(&driven, &options, &error);
-    WANT(it->udp);
+    if (it->udp == NULL) fprintf(stderr, "driven: %s\n", error.text), exit(1);
     it->batch = (struct dt_udp_batch){
         .items = it->items, .octets = it->octets, .max_items = ITEMS, .size = ROOM, .heard = it->heard};
 }
@@ -102,15 +103,24 @@ static void join(struct end *it, const struct end *to, uint32_t node) {
     WANT(dt_udp_set_neighbour(it->udp, &route, "127.0.0.1", port, &error) == DT_OK); /* (again: it stays) */
 }
 
+/* Ends the program if a driver failed. */
+static void check(struct end *it, dt_status status) {
+    if (status == DT_OK) return;
+    WANT(status == DT_NOT_OPEN || status == DT_NO_MEMORY || status == DT_STOPPED);
+    fprintf(stderr, "driven: failed: status %u, %s\n", status, strerror(dt_udp_system_error(it->udp)));
+    exit(3);
+}
+
 /* One batch of the service: each request is answered by its own octets. */
 static void serve(struct end *it) {
-    WANT(dt_udp_next_batch(it->udp, 1, &it->batch) == DT_OK);
+    check(it, dt_udp_next_batch(it->udp, 1, &it->batch));
     if (it->batch.count > it->most) it->most = it->batch.count;
     for (uint32_t i = 0; i < it->batch.count; i++) {
         const struct dt_udp_item *item = &it->items[i];
         struct dt_token token = {.call = item->call, .flow = item->flow};
+        if (item->kind == DT_UDP_EVENT_TOO_BIG) continue;
         WANT(item->kind == DT_UDP_EVENT_REQUEST && item->at + item->len <= it->batch.used);
-        WANT(dt_udp_reply(it->udp, &token, it->octets + item->at, item->len).status == DT_OK);
+        check(it, dt_udp_reply(it->udp, &token, it->octets + item->at, item->len).status);
     }
 }
 
@@ -121,10 +131,11 @@ struct waiting {
 };
 
 static unsigned ended(struct end *it, struct waiting *all, unsigned count) {
-    WANT(dt_udp_next_batch(it->udp, 1, &it->batch) == DT_OK);
-    WANT(it->batch.count == 0 || (it->batch.heard_count > 0 && it->heard[0] == 2));
+    check(it, dt_udp_next_batch(it->udp, 1, &it->batch));
     for (uint32_t i = 0; i < it->batch.count; i++) {
         uint32_t number;
+        if (it->items[i].kind == DT_UDP_EVENT_TOO_BIG) continue; /* (a system call that was made to fail) */
+        WANT(it->batch.heard_count > 0 && it->heard[0] == 2);
         WANT(it->items[i].kind == DT_UDP_EVENT_ANSWERED && it->items[i].len == sizeof number);
         memcpy(&number, it->octets + it->items[i].at, sizeof number);
         unsigned k = 0;
@@ -143,7 +154,7 @@ static void exchange(struct end *client, struct end *service, uint32_t calls) {
     for (uint32_t made = 0; made < calls || count > 0;) {
         for (; made < calls && count < UNDER_WAY; made++, count++) {
             struct dt_call_result it = dt_udp_call(client->udp, &flow, &made, sizeof made, 30000);
-            WANT(it.status == DT_OK);
+            check(client, it.status);
             all[count] = (struct waiting){it.call, made};
         }
         count = ended(client, all, count);

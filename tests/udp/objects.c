@@ -4,8 +4,8 @@
  *   objects put HOST PORT LANES OCTETS COUNT    puts COUNT objects of OCTETS octets one after another, or, with COUNT
  *                                               below 0, -COUNT at once; a line `put N MS` or `unsure N MS` for each
  *
- * Environment: DELAY_MS, the delay of the network each way (1); RTO_MS (40); FLAGS of the options (0). Octet i of an object of number n is by n
- * and i, so that the taker knows them. */
+ * Environment: DELAY_MS, the delay of the network each way (1); RTO_MS (40); FLAGS of the options (0). Octet i of an
+ * object of number n is by n and i, so that the taker knows them. */
 #include "deltat_udp.h"
 #include <inttypes.h>
 #include <signal.h>

@@ -9,7 +9,7 @@
  * numbers of requests; held: of 1,000 calls of the socket that send data once more, how many are preceded by a SIGSTOP of
  * this process; clock: a file whose first eight octets are the ns by which the clock stood; datagrams: it ends when it has
  * read so many; calls: it makes so many, and prints how long they took; host, peer_host: addresses; learns: how many peers
- * a service may learn. Each number is printed with its name. */
+ * a service may learn; timeout: of each call, in ms. Each number is printed with its name. */
 #include "deltat_udp.h"
 #include <errno.h>
 #include <fcntl.h>
@@ -29,7 +29,7 @@ enum { CALLER = 1000, SERVICE = 20, MOST = 65528, MOST_FLOWS = 256 };
 struct end {
     dt_udp *udp;
     char **words;
-    uint32_t node, peer, flows, depth, octets, answer, run, made, answered, unsure, alarms, calls;
+    uint32_t node, peer, flows, depth, octets, answer, run, made, answered, unsure, alarms, calls, timeout;
     uint64_t took_ms, in_time;
     uint32_t under_way[MOST_FLOWS];
     int log;
@@ -168,7 +168,7 @@ static void make_calls(struct end *it) {
             struct dt_flow to = {it->node, it->peer, (uint16_t)(CALLER + flow), SERVICE};
             uint64_t id = (uint64_t)it->run << 32 | it->made;
             memcpy(it->room, &id, sizeof id);
-            if (dt_udp_call(it->udp, &to, it->room, it->octets, 20000).status != DT_OK) break;
+            if (dt_udp_call(it->udp, &to, it->room, it->octets, it->timeout).status != DT_OK) break;
             it->made++;
             it->under_way[flow]++;
         }
@@ -304,6 +304,7 @@ int main(int count, char **words) {
     it.answer = number(&it, "answer", 8);
     it.run = number(&it, "run", 1);
     it.calls = number(&it, "calls", UINT32_MAX);
+    it.timeout = number(&it, "timeout", 20000);
     if (it.flows > MOST_FLOWS || it.octets > MOST || it.octets < 8) die("flows or octets");
     it.log = word(&it, "log", NULL) ? open(word(&it, "log", ""), O_WRONLY | O_CREAT | O_APPEND, 0600) : -1;
     held = number(&it, "held", 0);

@@ -10,9 +10,10 @@ import ctypes
 import os
 import socket
 import struct
+import time
 import weakref
 from collections.abc import Iterable
-from typing import TYPE_CHECKING, NoReturn
+from typing import TYPE_CHECKING, Any, NoReturn
 
 from . import _c, _c_udp
 from ._c import Status
@@ -36,12 +37,8 @@ assert [it.size for it in (_ITEM, _TOKEN, _CALL)] == [
 # of `dt_udp_batch`, from `count` on: count, used, heard_count, blocked, alarm, alarm_peer, calls_made
 _RESULT = struct.Struct("=II8xI?B2xI24xI")
 _RESULT_AT = _c_udp.Batch.count.offset
-assert [getattr(_c_udp.Batch, it).offset - _RESULT_AT for it in ("heard_count", "blocked", "alarm_peer", "calls_made")] == [
-    16,
-    20,
-    24,
-    _RESULT.size - 4,
-]
+_PLACES = {"heard_count": 16, "blocked": 20, "alarm": 21, "alarm_peer": 24, "calls_made": _RESULT.size - 4}
+assert all(getattr(_c_udp.Batch, name).offset == _RESULT_AT + at for name, at in _PLACES.items())
 
 
 def refuse(error: _c_udp.Error) -> NoReturn:
@@ -68,6 +65,10 @@ def _numeric(address: tuple[str, int]) -> tuple[bytes, bytes]:
     return host.encode(), str(port).encode()
 
 
+def _octets(of: ctypes.Array[Any]) -> memoryview:
+    return memoryview(of).cast("B")
+
+
 class Driver:
     """What drives a node, for one thread at a time."""
 
@@ -83,9 +84,9 @@ class Driver:
         room, items = ctypes.create_string_buffer(ROOM), (_c_udp.Item * MAX_ITEMS)()
         payloads, calls = ctypes.create_string_buffer(ROOM), (_c_udp.BatchCall * MAX_ITEMS)()
         self._heard, self._token = (ctypes.c_uint32 * _c_udp.MAX_HEARD)(), _c.Token()
-        self._octets_view, self._items_view = (memoryview(it).cast("B") for it in (room, items))
+        self._octets_view, self._items_view = _octets(room), _octets(items)
         # calls that are made at the next turn, and how many there are of them and of their octets
-        self._payloads_view, self._calls_view = (memoryview(it).cast("B") for it in (payloads, calls))
+        self._payloads_view, self._calls_view = _octets(payloads), _octets(calls)
         self._call_count = self._payloads_used = 0
         self._batch = _c_udp.Batch(
             items=items,
@@ -100,6 +101,8 @@ class Driver:
         self._batch_view, self._to_batch = memoryview(self._batch).cast("B"), ctypes.byref(self._batch)
         self.count = self._used = self._heard_count = 0
         """How many events the last turn took, of how many octets."""
+        self.turned_at = 0.0
+        """When the last turn ended, by time.monotonic()."""
         self.was_blocked = False
         """Whether the guard blocked a datagram at the last turn."""
         self.alarm = self.alarm_peer = 0
@@ -156,7 +159,7 @@ class Driver:
         status: int = next_batch(self._handle or self._open(), wait_ms, self._to_batch)
         found = _RESULT.unpack_from(self._batch_view, _RESULT_AT)
         self.count, self._used, self._heard_count, self.was_blocked, self.alarm, self.alarm_peer, made = found
-        self.refused = None
+        self.refused, self.turned_at = None, time.monotonic()
         if made == begun:
             self._call_count = self._payloads_used = 0
         else:
@@ -164,7 +167,7 @@ class Driver:
         return status
 
     def _refuse(self, count: int) -> None:
-        """Takes `count` calls that were made out of those that were begun, and the one after them, which was refused."""
+        """Takes out of the calls that were begun those that were made, and the one after them, which was refused."""
         source, target, source_port, target_port, _, _, user = _CALL.unpack_from(self._calls_view, count * _CALL.size)
         self.refused = user, Flow(source, source_port, target, target_port), self._batch.refused
         octets = bytes(self._payloads_view[: self._payloads_used])

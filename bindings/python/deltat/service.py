@@ -48,8 +48,8 @@ from ._c import Cause, EventKind, InvalidReason, PortKind, Start, Status
 from ._c_udp import EventKind as Kind
 from ._library import library
 from .errors import Declined, DeltatError, Forked, Full, Gone, InvalidArgument, OutOfMemory, Stopped, Unsure
-from .node import AnyNode, Exports
 from .driven import Driver
+from .node import AnyNode, Exports
 from .udp import AnyAsyncUdp, AnyUdp
 from .values import Flow, Link, Params, flow_from_c, flow_to_c, in_range, octets_of
 
@@ -66,8 +66,10 @@ _INVALID = {
 }
 
 
+LONGEST_AWAY = 0.002
+"""If the socket wasn't looked at for so many seconds, a call has it looked at."""
 _FIRST_USER = 1 << 63
-"""The users of calls by `Calls` are counted from here on, and those that a program gives to `Service.call` are lower."""
+"""The users of calls by `Calls` are counted from here on; those that a program gives to `Service.call` are lower."""
 
 
 class Token(NamedTuple):
@@ -648,8 +650,13 @@ class AsyncCalls:
         if udp._failure:
             udp._check()
         end: asyncio.Future[bytes] = self._loop.create_future()
-        self._desk.begin(udp.udp._driven, end, flow, payload, timeout)
-        udp._soon()
+        driven = udp.udp._driven
+        self._desk.begin(driven, end, flow, payload, timeout)
+        if time.monotonic() - driven.turned_at > LONGEST_AWAY:
+            # (a loop that is busy must not keep what arrives waiting)
+            udp._turn()
+        else:
+            udp._soon()
         return await end
 
     async def reply(self, token: Token, payload: bytes) -> None:

@@ -19,7 +19,7 @@ abbrev pub is_possible : Option ℕ → ℕ → Bool
 is_possible None least = true
 is_possible (Some most) least = nat_le least most
 
--- its width counts where its lower end is known
+-- its width counts where its lower end is known: not at a datagram that was made before the bounds that are kept
 abbrev pub widened : ℕ → ℕ → Option ℕ → ℕ → ℕ
 widened width sure None least = width
-widened width sure (Some most) least = if sure == 0 then width else max width (most - least)
+widened width sure (Some most) least = if sure == 0 then width else (if least == 0 then width else max width (most - least))

@@ -57,7 +57,7 @@ impl Interval {
         let least = self.lower.at(passage.made);
         match self.upper.at(passage.made) {
             Some(most) => {
-                if passage.sure.micros != 0 {
+                if passage.sure.micros != 0 && least != 0 {
                     self.widths.widen(most.saturating_sub(least));
                 }
                 least <= most

@@ -68,6 +68,26 @@ fn width_before_a_stop_counts(rt: HostRuntime) {
     assert!(rt; age_after(60_000).is_none());
 }
 
+/// Of two datagrams the one that was made first comes last: no bound says anything of when it was made, so its
+/// width isn't counted.
+fn width_of_a_reordered_datagram() -> u64 {
+    let mut interval = Interval::new(BOUNDS);
+    let passages = [(1_000_000, 1_001_000), (999_000, 1_001_500)];
+    for (made, came) in passages {
+        interval.see(&Passage {
+            made: at(made),
+            sure: at(made - 1000),
+            came: at(came),
+        });
+    }
+    interval.uncertain()
+}
+
+#[test]
+fn reordered_datagram_counts_no_width(rt: HostRuntime) {
+    assert!(rt; width_of_a_reordered_datagram() == 2004);
+}
+
 /// The first exchange took 600 ms, and each later one 2 ms: what is counted for stops a second later is 2 ms
 /// and the drift, since spans are short at first.
 fn width_after_a_slow_start() -> u64 {
