@@ -1,8 +1,8 @@
 #!/usr/bin/env python3
 """What a bottleneck carries, by our driver and by TCP, alone and beside each other: `bench/bottleneck.py`.
 
-A link of 100 Mbit/s and 20 ms each way between two network namespaces (tests/wan.py; it needs root), with a queue of 8, 40
-and 500 ms each; its carrier is tests/watch/relay.c, with whole packets. The ends are tests/watch/ends.c, with calls of
+A link of 100 Mbit/s and 20 ms each way between two network namespaces (tests/wan.py; it needs root), with a queue of 8,
+40 and 500 ms each; its carrier is tests/watch/relay.c, with whole packets. The ends are tests/watch/ends.c, with calls of
 32 KiB, 512 under way, and sockets of TCP.
 
   alone   16 MiB: the seconds of ours, of TCP with cubic and with bbr; how many of our packets were crowded out
@@ -94,7 +94,8 @@ class Place:
         finally:
             wan.call("setns", self.home, wan.CLONE_NEWNET)
         tuns = [tun for _, tun in self.spaces]
-        keys = {"tun_a": tuns[0], "tun_b": tuns[1], "delay": DELAY, "rate": RATE, "queue": queue_ms * RATE * 125, "lose": loss}
+        keys = {"tun_a": tuns[0], "tun_b": tuns[1], "delay": DELAY, "rate": RATE, "lose": loss}
+        keys |= {"queue": queue_ms * RATE * 125}
         words = [str(programs.folder / "relay"), *(f"{key}={value}" for key, value in keys.items()), f"seed={seed}"]
         self.relay = subprocess.Popen(words, stdout=subprocess.PIPE, text=True, pass_fds=tuns)
         assert self.relay.stdout and self.relay.stdout.readline() == "ready\n"
@@ -111,7 +112,8 @@ class Place:
 
     def ends(self, side: int, role: str, **keys: object) -> subprocess.Popen[str]:
         own = {"host": wan.ADDRESSES[side], "peer_host": wan.ADDRESSES[1 - side], "port": 6000, "peer_port": 6000}
-        return self.start(side, [str(self.programs.folder / "ends"), role, *(f"{k}={v}" for k, v in (own | BOTH | keys).items())])
+        words = (f"{key}={value}" for key, value in (own | BOTH | keys).items())
+        return self.start(side, [str(self.programs.folder / "ends"), role, *words])
 
     def serve(self) -> None:
         self.ends(0, "serve", node=2, peer=9, peer_port=1, learns=16)
@@ -180,8 +182,8 @@ def two(programs: Programs, queue_ms: int, seconds: float, seed: int) -> str:
         ends = [it.ask(node, seconds=seconds) for node in (1, 3)]
         found = [of_ours(end, seconds) for end in ends]
     share = max(found).octets / max(sum(each.octets for each in found), 1)
-    shown = f"{found[0]}, {found[1]}: {100 * share:.0f} to {100 - 100 * share:.0f}; {100 * said['udp_crowded'] / max(said['of_udp'], 1):.1f} % "
-    shown += f"crowded out, longest queue {said['queue_us'] / 1000:.0f} ms"
+    shown = f"{found[0]}, {found[1]}: {100 * share:.0f} to {100 - 100 * share:.0f}; "
+    shown += f"{100 * said['udp_crowded'] / max(said['of_udp'], 1):.1f} % crowded out, longest queue {said['queue_us'] / 1000:.0f} ms"
     return shown
 
 

@@ -394,7 +394,8 @@ def alarms() -> str:
             for sure_us in (0, 60_000_000):
                 peer.sendto(bare(2, heard, sure_us), udp.socket.getsockname())
                 udp.poll(0.2)
-            wants(udp.alarms == {2: deltat.Alarm.CLOCK} and udp.counts["clock_alarms"] == 1, f"{udp.alarms}, {udp.counts}")
+            wants(udp.alarms == {2: deltat.Alarm.CLOCK}, f"{udp.alarms}")
+            wants(udp.counts["clock_alarms"] == 1, f"{udp.counts}")
     return ", ".join([*found, "CLOCK"])
 
 

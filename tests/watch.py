@@ -186,8 +186,8 @@ class Run:
 
 
 def whole(programs: Programs, link: Link, flags: int, seed: int) -> Ended:
-    """A run in which all that was meant happened: where the machine itself stood for seconds, the client ends before its
-    clock stood, and there was nothing to find. Then it is run once more."""
+    """A run in which all that was meant happened: where the machine itself stood for seconds, the client ends before
+    its clock stood, and there was nothing to find. Then it is run once more."""
     for again in range(3):
         it = Run(programs, link, flags, seed + 400 * again)()
         if it.stops == link.stops and (it.handed or it.counted("other_parameters")):
@@ -308,8 +308,8 @@ def drops(programs: Programs, datagrams: int) -> str:
         it = Run(programs, Link(relay, both, client), 0, 9000, patience=120 + datagrams // 2000)()
         assert it.counted("clock_alarms") == 0, f"a false alarm: {it}"
         told.append(
-            f"{name}: {it.counted('false_drops')} of {it.counted('in')} dropped falsely, {it.counted('late')} that were "
-            f"late, the longest {max(it.client['longest_us'], it.server['longest_us']) / 1000:.1f} ms"
+            f"{name}: {it.counted('false_drops')} of {it.counted('in')} dropped falsely, {it.counted('late')} that "
+            f"were late, the longest {max(it.client['longest_us'], it.server['longest_us']) / 1000:.1f} ms"
         )
         assert it.counted("false_drops") == 0, "; ".join(told)
         assert it.counted("in") >= datagrams, f"too few datagrams: {told[-1]}"

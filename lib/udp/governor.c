@@ -17,6 +17,7 @@ enum {
     BURST_SEGMENTS = 16,
     FIRST_ROUNDS = 3, /* in which no loss is counted */
     PROBE_ROUNDS = 64, /* beside others: after so many it is tried whether they are still there */
+    LONG_LOW = 4,    /* rounds without a queue after which the window grows faster: a stall ended the start too soon */
     LONG_ABOVE = 6,  /* rounds above the aim after which others are taken to fill the queue */
     NAMED = 4096,    /* buckets */
     FLOWS = 4096,    /* buckets */
@@ -134,11 +135,13 @@ static void end_round(dt_udp *u, struct watch *it, uint16_t heard, uint64_t now_
     bool beside = is_beside_others(u, g, queue, aim), probes = beside && g->beside % PROBE_ROUNDS < 2;
     /* losses without a queue aren't ours, and beside others few of them are */
     bool lossy = more >= 3 && went && more * (beside ? 4 : 20) > went && queue > aim / 8;
+    if (lossy || !g->limited || queue >= aim / 4) g->low = 0;
+    else if (g->low < LONG_LOW) g->low++;
     if (probes) (void)dt_watch_shrink(it->rules, 500); /* (if the queue was ours, it is empty then) */
     else if (lossy) (void)dt_watch_shrink(it->rules, (uint32_t)(more * 1000 / went));
     else if (queue > g->target_us) (void)dt_watch_shrink(it->rules, dt_watch_cut(queue, base, g->target_us));
     else if (g->limited) {
-        (void)dt_watch_grow(it->rules, g->fast && queue < aim / 2);
+        (void)dt_watch_grow(it->rules, (g->fast && queue < aim / 2) || g->low == LONG_LOW);
         if (g->fast && queue < aim / 4) (void)dt_watch_grow(it->rules, true);
     }
     if (lossy || queue > aim / 2) g->fast = false;

@@ -115,6 +115,7 @@ struct governor {
     uint8_t above; /* rounds in a row whose delay was above the aim */
     uint8_t rounds; /* that ended, up to FIRST_ROUNDS */
     uint8_t beside; /* rounds in which others filled the queue */
+    uint8_t low;    /* rounds in a row with next to no queue though the window limited, up to LONG_LOW */
     bool fast, limited;
 };
 
