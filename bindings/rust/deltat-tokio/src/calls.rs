@@ -15,6 +15,8 @@ use crate::refused;
 
 /// Events other than requests that wait: of more the oldest is dropped.
 const MOST_NOTICES: usize = 1000;
+/// Events that are taken before other tasks have their turn.
+const MOST_EVENTS: usize = 1024;
 /// How often a drain looks whether all is settled.
 const DRAINING: Duration = Duration::from_millis(5);
 
@@ -183,7 +185,15 @@ impl AsyncCalls {
 
 /// Takes what happens, and sends what tasks sent, until the service fails.
 async fn look_after(shared: Arc<Shared>, watched: AsyncFd<Descriptor>) {
-    while shared.turn() {
+    loop {
+        match shared.turn() {
+            Ok(true) => (),
+            Ok(false) => {
+                tokio::task::yield_now().await;
+                continue;
+            }
+            Err(why) => return shared.fail(why),
+        }
         tokio::select! {
             // (what arrives from here on makes it ready again)
             ready = watched.readable() => match ready {
@@ -208,17 +218,11 @@ impl Shared {
         Ok(state)
     }
 
-    /// Takes all events that there are; what was sent leaves. Whether the service can continue.
-    fn turn(&self) -> bool {
-        let taken = self.state().take_all();
-        match taken {
-            Ok(()) => self.turned.notify_waiters(),
-            Err(why) => {
-                self.fail(why);
-                return false;
-            }
-        }
-        true
+    /// Takes events; what was sent leaves. Whether there are no more: else the descriptor says nothing.
+    fn turn(&self) -> Result<bool, Error> {
+        let is_done = self.state().take_some()?;
+        self.turned.notify_waiters();
+        Ok(is_done)
     }
 
     /// Ends all that waits with an error.
@@ -239,9 +243,14 @@ impl State {
         self.failure.clone().map_or(Ok(()), Err)
     }
 
-    fn take_all(&mut self) -> Result<(), Error> {
+    /// Takes events, and gives ends of calls to whoever waits for them. Whether there are no more.
+    fn take_some(&mut self) -> Result<bool, Error> {
         let State { service, ends, requests, notices, .. } = self;
-        while let Some(event) = service.next_event_within(Duration::ZERO)? {
+        for _ in 0..MOST_EVENTS {
+            let event = match service.next_event_within(Duration::ZERO)? {
+                Some(event) => event,
+                None => return Ok(true),
+            };
             let (call, end) = match event {
                 Event::Answered { call, octets } => (call, Ok(octets.to_vec())),
                 Event::Unsure { call, cause } => (call, Err(Error::Unsure { cause })),
@@ -261,7 +270,7 @@ impl State {
                 let _ = ended.send(end);
             }
         }
-        Ok(())
+        Ok(false)
     }
 }
 

@@ -354,3 +354,27 @@ fn fresh_numbers_differ_and_debug_shows_the_number() {
     let node = Node::open(&options(one)).unwrap();
     assert!(format!("{node:?}").starts_with(&format!("Node {{ number: {one}, process: ")));
 }
+
+#[test]
+fn calls_that_grow_are_all_answered_soon() {
+    // (frames of growing sizes: those of a flow have to leave in their order, or a round brings one of them)
+    let (mut client, mut service) = services(&options(1));
+    for len in 0..200 {
+        client.call(FLOW, &vec![7; len], LONG).unwrap();
+    }
+    let mut answered = 0;
+    let begun = Instant::now();
+    while answered < 200 && begun.elapsed() < Duration::from_millis(2500) {
+        while let Some(event) = service.next_event_within(Duration::ZERO).unwrap() {
+            if let Event::Request { token, octets } = event {
+                let octets = octets.to_vec();
+                service.reply(token, &octets).unwrap();
+            }
+        }
+        if let Some(event) = client.next_event_within(Duration::from_millis(1)).unwrap() {
+            assert!(matches!(event, Event::Answered { .. }), "{event:?}");
+            answered += 1;
+        }
+    }
+    assert_eq!(answered, 200, "in {:?}", begun.elapsed());
+}
