@@ -313,8 +313,8 @@ impl State {
                 None => return Ok(true),
             };
             let (call, end) = match event {
-                Event::Answered { call, octets } => (call, Ok(octets.to_vec())),
-                Event::Unsure { call, cause } => (call, Err(Error::Unsure { cause })),
+                Event::Answered { call, octets, .. } => (call, Ok(octets.to_vec())),
+                Event::Unsure { call, cause, .. } => (call, Err(Error::Unsure { cause })),
                 Event::Request { .. } => {
                     requests.push_back(event.into_owned());
                     continue;
