@@ -39,7 +39,8 @@ SYS = CRATES / "deltat-sys" / "src" / "sys.rs"
 SYS_UDP = CRATES / "deltat-udp-sys" / "src" / "sys.rs"
 LIBRARY = pathlib.Path(os.environ.get("DELTAT_LIB_DIR", TOP / "lib")).resolve()
 C_TYPES = {"u8": "uint8_t", "u16": "uint16_t", "u32": "uint32_t", "u64": "uint64_t", "usize": "size_t", "bool": "bool",
-           "f64": "double", "c_char": "char", "c_void": "void", "dt_status": "dt_status", "i32": "int32_t", "c_int": "int"}
+           "f64": "double", "c_char": "char", "c_void": "void", "dt_status": "dt_status", "i32": "int32_t",
+           "c_int": "int"}
 ARCHIVES = ("libdeltat.a", "libdeltat-udp.a")
 LONGEST_PROGRAM = 25
 # how often a service is stopped while it is asked

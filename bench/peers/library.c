@@ -1,11 +1,11 @@
-/* Nodes of libdeltat over the driver, libdeltat-udp: each request is a message, or an object where it is longer than one.
- * peer.h says how it is run. DELAY_MS and RTO_MS are what the nodes' parameters allow for; with SEGMENTS the system cuts and
- * joins datagrams; AGAIN lets the server be opened again, and MANY_FLOWS gives each flow of either end a room of 4,096
- * octets. And what the library takes by itself:
+/* Nodes of libdeltat over the driver, libdeltat-udp: each request is a message, or an object where it is longer than
+ * one. peer.h says how it is run. DELAY_MS and RTO_MS are what the nodes' parameters allow for; with SEGMENTS the
+ * system cuts and joins datagrams; AGAIN lets the server be opened again, and MANY_FLOWS gives each flow of either end
+ * a room of 4,096 octets. And what the library takes by itself:
  *
- *   library ask - 0 memory COUNT OCTETS 0     two nodes in one thread, with no socket between them: COUNT requests of so
- *                                   many octets, each answered. Prints `done EVENTS SECONDS`: a call that sends, takes in
- *                                   a datagram, reads or ticks is an event
+ *   library ask - 0 memory COUNT OCTETS 0     two nodes in one thread, with no socket between them: COUNT requests of
+ *                                   so many octets, each answered. Prints `done EVENTS SECONDS`: a call that sends,
+ *                                   takes in a datagram, reads or ticks is an event
  */
 #include "peer.h"
 #include "deltat_udp.h"
@@ -135,8 +135,9 @@ static bool takes(struct end *it, int wait_ms) {
     return event->kind == DT_UDP_EVENT_MESSAGE && event->len == ANSWER && memcmp(event->octets, it->asked, NUMBER) == 0;
 }
 
-/* One request on a flow of its own port, and its answer. If octets of it were given up, or its answer doesn't come while
-   its server may still send it, it isn't known whether it was served, and it is made once more, as a call of its own. */
+/* One request on a flow of its own port, and its answer. If octets of it were given up, or its answer doesn't come
+ * while its server may still send it, it isn't known whether it was served, and it is made once more, as a call of its
+ * own. */
 static bool exchange(struct end *it, uint16_t port, uint32_t octets, double until) {
     double patience = 0.001 * (2 * 12 * setting("RTO_MS", 40));
     bool answered = false;
@@ -175,7 +176,8 @@ static void ask_flows(struct end *it, const struct question *asked, double until
 
 static void ask_flow(struct end *it, const struct question *asked, double until) {
     bool is_message = strcmp(asked->what, "message") == 0;
-    uint32_t most = MOST - HEAD, octets = asked->octets > most && !(is_message && asked->octets > MOST) ? most : asked->octets;
+    bool is_long = is_message && asked->octets > MOST; /* (it goes as an object) */
+    uint32_t most = MOST - HEAD, octets = asked->octets > most && !is_long ? most : asked->octets;
     if (!exchange(it, CALLER, NUMBER, until)) return;
     uint32_t count = 0;
     double begun = now();
@@ -244,8 +246,11 @@ static int messages(struct alone *it, uint64_t at, bool serves) {
         it->events++;
         if (!message_ended(it, &report.flow, at)) continue;
         count++;
-        struct dt_flow back = {report.flow.target, report.flow.source, report.flow.target_port, report.flow.source_port};
-        if (serves) must(dt_node_send(it->node, at, &back, answer, ANSWER, true, true).status, "an answer"), it->events++;
+        if (!serves) continue;
+        const struct dt_flow *flow = &report.flow;
+        struct dt_flow back = {flow->target, flow->source, flow->target_port, flow->source_port};
+        must(dt_node_send(it->node, at, &back, answer, ANSWER, true, true).status, "an answer");
+        it->events++;
     }
     return count;
 }
