@@ -281,6 +281,8 @@ static void in_memory(uint32_t count, uint32_t octets) {
     }
     done((uint32_t)(client.events + server.events), now() - begun);
     free(sent);
+    dt_node_free(client.node);
+    dt_node_free(server.node);
 }
 
 static void ask(const char *address, int port, const struct question *asked) {
