@@ -1,7 +1,8 @@
 #!/usr/bin/env python3
 """libdeltat beside plain UDP and ENet on loopback, on the same work, and what the library takes by itself.
 
-`bench/library.py [LIBRARY] [--runs N] [--seconds S]`; LIBRARY is lib/libdeltat.a where none is named. The programs are
+`bench/library.py [LIBRARY] [--runs N] [--seconds S]`; LIBRARY is lib/libdeltat.a where none is named, with the driver
+libdeltat-udp.a beside it, over which the library is measured. The programs are
 those of bench/peers (peer.h says what is asked), one process at each end with one thread each. For each peer, the peers
 taking turns, N runs (3) each:
 
@@ -41,7 +42,7 @@ SHORT, LONG = ("UDP", "same"), ("segments",)
 
 def built(folder: pathlib.Path, library: pathlib.Path) -> dict[str, str]:
     """The programs that can be built here."""
-    ours = [f"-I{TOP / 'include'}", str(library)]
+    ours = [f"-I{TOP / 'include'}", str(library.with_name("libdeltat-udp.a")), str(library)]
     more = {"ENet": ["-lenet"], "libdeltat": ours, "segments": ours}
     found = {}
     for name, file in FILES.items():

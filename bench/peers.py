@@ -13,8 +13,8 @@ Where a time is over, it says how many were answered till then. Then what the li
 1.2 seconds later, to a server that runs on and to one that was killed and started again in between: how often the
 request is served.
 
-Peers are PEERS below: plain UDP that asks again (what the link can do), TCP, ENet, CoAP, UDT, QUIC, two nodes, and two nodes
-over the library (`make -C lib`). The
+Peers are PEERS below: plain UDP that asks again (what the link can do), TCP, ENet, CoAP, UDT, QUIC, two nodes, and two
+nodes of the library over its driver (`make -C lib`), which sends 16 MiB as an object. The
 programs beside this file are built with cc and c++ first. A peer that can't be built here, or a measure that it can't
 do, is `-`. Each measure has its seconds, so all takes at most half an hour; `--part 0.2` gives each a fifth of them.
 Ends with 1 where a peer that was named with --peers can't be built, and with 2 where there is no such link here."""
@@ -102,7 +102,7 @@ def node(room: Room, link: Link, words: list[str]) -> list[str]:
 
 def library(room: Room, link: Link, words: list[str]) -> list[str]:
     delay = link.delay + ADDED_DELAY + link.again
-    return ["env", f"DELAY_MS={delay:.0f}", f"RTO_MS={max(40, 2 * link.delay + 10):.0f}", str(room.folder / "library"), *words]
+    return ["env", "SEGMENTS=1", f"DELAY_MS={delay:.0f}", f"RTO_MS={max(40, 2 * link.delay + 10):.0f}", str(room.folder / "library"), *words]
 
 
 def quic(room: Room, link: Link, words: list[str]) -> list[str]:
@@ -110,6 +110,8 @@ def quic(room: Room, link: Link, words: list[str]) -> list[str]:
 
 
 C, CXX = ["cc", "-O2", "-Wall", "-Wextra", "-Werror"], ["c++", "-std=c++17", "-O2", "-Wall", "-Wextra", "-Werror"]
+# the driver, and the library below it
+ARCHIVES = [str(TOP / "lib" / f"lib{it}.a") for it in ("deltat-udp", "deltat")]
 FAST = "echo 3 > /proc/sys/net/ipv4/tcp_fastopen"
 PEERS = [
     Peer("UDP", [*C, "udp.c", "-o", "udp"], built("udp"), lacks=("64 KiB", "16 MiB", "flows")),
@@ -120,7 +122,7 @@ PEERS = [
     Peer("UDT", [*CXX, "udt.cc", "-o", "udt", "-ludt", "-lpthread"], built("udt")),
     Peer("QUIC", ["sh", "-c", "command -v gtlsclient && test -x /usr/sbin/gtlsserver && command -v openssl"], quic, lacks=("answers",), tells=False),
     Peer("deltat", [], node, lacks=("16 MiB",)),
-    Peer("libdeltat", [*C, f"-I{TOP / 'include'}", "library.c", str(TOP / "lib" / "libdeltat.a"), "-o", "library"], library),
+    Peer("libdeltat", [*C, f"-I{TOP / 'include'}", "library.c", *ARCHIVES, "-o", "library"], library),
 ]
 
 

@@ -1,12 +1,12 @@
 #!/usr/bin/env python3
 """The crates of bindings/rust over libdeltat: `tests/rust.py [TEST ..]`. Ends with 1 where one of these fails, and with
-77 where there is no cargo or no lib/libdeltat.a (DELTAT_LIB_DIR names another folder).
+77 where there is no cargo, or no libdeltat.a and libdeltat-udp.a in lib/ (DELTAT_LIB_DIR names another folder).
 
 - declared: what deltat-sys and deltat-udp-sys declare is what include/deltat.h and deltat_udp.h have: a C compiler
   compares the prototypes, and two programs the sizes of structs, the places of their fields and the numbers.
 - crates: without a network and without warnings cargo builds all of it, runs the tests of the crates and those in
   their documents, and makes the documents; clippy has nothing to say, where there is one.
-- found: the library is found by a deltat.pc, also the shared one; a folder without it is named in the error.
+- found: library and driver are found by a deltat.pc, also the shared ones; a folder without one is named in the error.
 - interfaces: a program isn't linked with a library of interface 1, and one of interface 3 is refused at the opening.
 - short: the program of docs/library.md is examples/min.rs, has 25 lines or fewer, and answers.
 - echo: over a link that drops 1 of 100 datagrams the example answers 120 words, each once and in order, while
@@ -39,7 +39,9 @@ SYS = CRATES / "deltat-sys" / "src" / "sys.rs"
 SYS_UDP = CRATES / "deltat-udp-sys" / "src" / "sys.rs"
 LIBRARY = pathlib.Path(os.environ.get("DELTAT_LIB_DIR", TOP / "lib")).resolve()
 C_TYPES = {"u8": "uint8_t", "u16": "uint16_t", "u32": "uint32_t", "u64": "uint64_t", "usize": "size_t", "bool": "bool",
-           "f64": "double", "c_char": "char", "c_void": "void", "dt_status": "dt_status", "i32": "int32_t", "c_int": "int"}
+           "f64": "double", "c_char": "char", "c_void": "void", "dt_status": "dt_status", "i32": "int32_t",
+           "c_int": "int"}
+ARCHIVES = ("libdeltat.a", "libdeltat-udp.a")
 LONGEST_PROGRAM = 25
 # how often a service is stopped while it is asked
 STOPS = 8
@@ -168,6 +170,7 @@ def crates(folder: str) -> bool:
 
 USER = """use deltat::{Network, Node, NodeOptions, Params, Start};
 fn main() {
+    assert!(deltat_udp::fresh_number().is_ok());
     let (params, _) = Params::for_network(&Network::new(1000, 1000)).unwrap();
     let options = NodeOptions { node: 1, now: 0, links: &[], routes: &[], start: Start::Again };
     match Node::open(&params, &options) {
@@ -184,7 +187,8 @@ def user_of(folder: str) -> pathlib.Path:
     shutil.copytree(CRATES, top / "rust" / "crates", ignore=shutil.ignore_patterns("target"), dirs_exist_ok=True)
     (top / "user" / "src").mkdir(parents=True, exist_ok=True)
     package = '[package]\nname = "user"\nversion = "0.1.0"\nedition = "2021"\n'
-    dependencies = '[dependencies]\ndeltat = { path = "../rust/crates/deltat" }\n'
+    paths = "".join(f'{it} = {{ path = "../rust/crates/{it}" }}\n' for it in ("deltat", "deltat-udp"))
+    dependencies = f"[dependencies]\n{paths}"
     (top / "user" / "Cargo.toml").write_text(f"{package}{dependencies}[workspace]\n")
     (top / "user" / "src" / "main.rs").write_text(USER)
     return top / "user"
@@ -198,15 +202,15 @@ def found(folder: str) -> bool:
     for kind in ("static", "shared"):
         lib = pathlib.Path(folder, kind, "lib", "pkgconfig")
         lib.mkdir(parents=True)
-        shared = max(LIBRARY.glob("libdeltat.so.*"), default=None)
-        if kind == "shared" and not shared:
-            print("found: there is no shared library")
+        shared = [*LIBRARY.glob("libdeltat.so.*"), *LIBRARY.glob("libdeltat-udp.so.*")]
+        if kind == "shared" and len(shared) < 2:
+            print("found: there are no shared libraries")
             continue
-        if kind == "static":
-            shutil.copy(LIBRARY / "libdeltat.a", lib.parent)
-        else:
-            shutil.copy(shared, lib.parent)
-            (lib.parent / "libdeltat.so").symlink_to(shared.name)
+        for it in ARCHIVES if kind == "static" else ():
+            shutil.copy(LIBRARY / it, lib.parent)
+        for it in shared if kind == "shared" else ():
+            shutil.copy(it, lib.parent)
+            (lib.parent / it.with_suffix("").name).symlink_to(it.name)
         prefix = f"prefix={lib.parent.parent}\nlibdir=${{prefix}}/lib\n"
         (lib / "deltat.pc").write_text(f"{prefix}\nName: deltat\nVersion: {version}\nLibs: -L${{libdir}} -ldeltat\n")
         target = f"{folder}/user-{kind}"
@@ -216,6 +220,13 @@ def found(folder: str) -> bool:
         if it.stdout.strip() != version or ("libdeltat" in linked) != (kind == "shared"):
             print(f"found: {kind}: {it.stdout!r} {it.stderr[-600:]} {linked}")
             right = False
+    alone = pathlib.Path(folder, "alone")
+    alone.mkdir()
+    shutil.copy(LIBRARY / ARCHIVES[0], alone)
+    it = cargo(f"{folder}/alone-target", "build", DELTAT_LIB_DIR=str(alone))
+    if it.returncode == 0 or f"no libdeltat-udp.a or libdeltat-udp.so beside libdeltat: {alone}" not in it.stderr:
+        print(f"found: a folder without the driver: {it.stderr[-600:]}")
+        right = False
     it = cargo(f"{folder}/nowhere", "build", DELTAT_LIB_DIR=folder)
     if it.returncode == 0 or f"no libdeltat.a or libdeltat.so in DELTAT_LIB_DIR: {folder}" not in it.stderr:
         print(f"found: a folder without a library: {it.stderr[-600:]}")
@@ -243,6 +254,7 @@ def interfaces(folder: str) -> bool:
     of_interface(later, "dt_abi_version", 3)
     ran(["objcopy", "--redefine-sym", "dt_abi_version=own", str(LIBRARY / "libdeltat.a"), "libdeltat.a"], 30, cwd=later)
     ran(["ar", "rs", "libdeltat.a", "told.o"], 30, cwd=later)
+    shutil.copy(LIBRARY / ARCHIVES[1], later)
     names = {**os.environ, "DELTAT_LIB_DIR": str(later), "CARGO_TARGET_DIR": f"{folder}/interfaces"}
     it = ran(["cargo", "run", "--offline"], 200, cwd=user_of(folder), env=names)
     if not it.stdout.startswith("libdeltat has interface 3, and this crate is for 2"):
@@ -380,8 +392,9 @@ TESTS: dict[str, Callable[[str], bool]] = {
 def main() -> int:
     if not shutil.which("cargo"):
         skip("there is no cargo")
-    if not (LIBRARY / "libdeltat.a").exists():
-        skip(f"{LIBRARY}/libdeltat.a isn't there: make -C lib")
+    missing = [it for it in ARCHIVES if not (LIBRARY / it).exists()]
+    if missing:
+        skip(f"{LIBRARY}/{missing[0]} isn't there: make -C lib")
     failed = 0
     with tempfile.TemporaryDirectory() as folder:
         for name in sys.argv[1:] or TESTS:

@@ -1,25 +1,29 @@
 #!/usr/bin/env python3
 """Nodes and services of Rust over UDP, plain and under tokio: `tests/rust_udp.py [CASE ..]`; all where none is named.
 
-The crates deltat-udp and deltat-tokio of bindings/rust are built without a network, over the archives of lib/ (DELTAT_LIB_DIR
-names another folder); tokio is that of Debian's package librust-tokio-dev, in place of crates-io.
+The crates deltat-udp and deltat-tokio of bindings/rust are built without a network, over the archives of lib/
+(DELTAT_LIB_DIR names another folder); tokio is that of Debian's package librust-tokio-dev, in place of crates-io.
 
-- short: the examples `service` and `client` of both crates have 30 lines or fewer, and docs/driver.md shows the first two.
+- short: the examples `service` and `client` of both crates have 30 lines or fewer, and docs/driver.md shows the first
+  two.
 - plain, tokio: the service is asked over 127.0.0.1, ::1 and localhost, by both clients and by that of C; killed and
   started again in its state folder it is silent, and answers.
 - c_service: both clients ask the service of C.
-- loss: 5 % of all datagrams are lost each way: of 2,000 calls none is served twice or has another call's answer, and 99 %
-  are answered.
+- loss: 5 % of all datagrams are lost each way: of 2,000 calls none is served twice or has another call's answer, and
+  99 % are answered.
 - killed: of 60,000 calls to a service that is killed five times while it serves, each ends, and none is served twice.
 - memory: each allocation of 16 KiB or more fails once in a client: it says that there is no memory or that the service
   stopped, or is answered.
 - system: each system call that opens something fails once: the error is that of the system.
 - tasks: the tests of deltat-tokio, and those in its documents; clippy has nothing to say, where there is one.
 
-Ends with 1 where one fails, and with 77 where there is no cargo or no archive; without tokio's crates the cases of tokio are
-left out, and it says so. In tests/all: no words, 900 s."""
+Ends with 1 where one fails, and with 77 where there is no cargo or no archive; without tokio's crates the cases of
+tokio are left out, and it says so.
+
+In tests/all: no words, 900 s."""
 from __future__ import annotations
 
+import errno
 import os
 import pathlib
 import re
@@ -43,8 +47,8 @@ DEBIAN = pathlib.Path("/usr/share/cargo/registry")
 SOURCES = ["--config", 'source.crates-io.replace-with="debian"', "--config", f'source.debian.directory="{DEBIAN}"']
 HOSTS = ("127.0.0.1", "::1", "localhost")
 LONGEST_PROGRAM = 30
-# the silence of a node with the parameters of the examples, in seconds; and how long a program may take on a machine that
-# others load
+# the silence of a node with the parameters of the examples, in seconds; and how long a program may take on a machine
+# that others load
 SILENT, PATIENCE = 2.0, 120
 
 # fails the allocation of at least LEAST octets with the number FAIL_AT
@@ -99,8 +103,9 @@ class Built:
     def of_c(self, name: str) -> str:
         path = self.folder / name
         archives = [str(LIBRARY / f"lib{it}.a") for it in ("deltat-udp", "deltat")]
-        words = ["cc", "-std=c11", "-I", str(TOP / "include"), str(TOP / "examples" / f"{name}.c"), *archives, "-o", str(path)]
+        source = TOP / "examples" / f"{name}.c"
         if not path.exists():
+            words = ["cc", "-std=c11", "-I", str(TOP / "include"), str(source), *archives, "-o", str(path)]
             wants_well("cc", ran(words, 60))
         return str(path)
 
@@ -116,7 +121,8 @@ def wants(truth: bool, what: str) -> None:
 
 def wants_well(what: str, it: subprocess.CompletedProcess[str]) -> None:
     """A command ended with 0 and warned of nothing."""
-    wants(it.returncode == 0 and "warning" not in it.stderr, f"{what}: {it.returncode}: {(it.stdout + it.stderr)[-2000:]}")
+    is_well = it.returncode == 0 and "warning" not in it.stderr
+    wants(is_well, f"{what}: {it.returncode}: {(it.stdout + it.stderr)[-2000:]}")
 
 
 @contextmanager
@@ -127,7 +133,8 @@ def running(words: list[str], port: int) -> Iterator[subprocess.Popen[str]]:
             until = time.monotonic() + 20
             while it.poll() is None and not is_bound(port) and time.monotonic() < until:
                 time.sleep(0.01)
-            wants(it.poll() is None, f"{' '.join(words)}: {it.poll()}: {it.stderr.read() if it.poll() is not None else ''}")
+            if it.poll() is not None:
+                raise AssertionError(f"{' '.join(words)} ended with {it.returncode}: {it.stderr.read()}")
             yield it
         finally:
             it.kill()
@@ -164,7 +171,8 @@ def ask_all(built: Built, port: int) -> int:
     for client in clients(built):
         for host in HOSTS:
             it = ran([client, host, f"hello {host}", str(port)])
-            wants((it.returncode, it.stdout) == (0, f"hello {host}"[::-1] + "\n"), f"{client} {host}: {it.stdout}{it.stderr}")
+            answered = (it.returncode, it.stdout) == (0, f"hello {host}"[::-1] + "\n")
+            wants(answered, f"{client} {host}: {it.stdout}{it.stderr}")
             count += 1
     return count
 
@@ -230,8 +238,9 @@ def killed(built: Built) -> str:
         with running(serve, port) as service:
             silent = int(re.findall(r"\d+", service.stdout.readline())[0])
             if asking is None:
+                words = [many, "ask", HOST, str(port), str(count)]
                 with ends.open("w") as out:
-                    asking = subprocess.Popen([many, "ask", HOST, str(port), str(count)], stdout=out, stderr=subprocess.DEVNULL)
+                    asking = subprocess.Popen(words, stdout=out, stderr=subprocess.DEVNULL)
             time.sleep(silent / 1000 + 0.2)
             if number == kills:
                 asking.wait(PATIENCE)
@@ -270,9 +279,9 @@ def system(built: Built) -> str:
     if not shutil.which("strace"):
         return "left out: there is no strace"
     client, told = built.example("deltat-udp", "client"), []
-    for call, error, number in (
-        ("socket", "EMFILE", 24), ("bind", "EACCES", 13), ("timerfd_create", "EMFILE", 24), ("epoll_create1", "EMFILE", 24)
-    ):
+    failures = {"socket": "EMFILE", "bind": "EACCES", "timerfd_create": "EMFILE", "epoll_create1": "EMFILE"}
+    for call, error in failures.items():
+        number = getattr(errno, error)
         words = ["strace", "-f", "-qq", "-o", "/dev/null", "-e", f"trace={call}", "-e", f"inject={call}:error={error}"]
         it = ran([*words, client, HOST, "hello", str(free_port())])
         wants(it.returncode == 1 and f"code: {number}" in it.stderr, f"{call}: {it.returncode} {it.stderr[-300:]}")

@@ -8,13 +8,17 @@ use std::{fmt, mem};
 use deltat_udp::{Calls, Error, Event, Flow, Handle, Service, Token};
 use tokio::io::unix::AsyncFd;
 use tokio::io::Interest;
-use tokio::sync::{oneshot, Notify};
+use tokio::sync::{oneshot, Notify, OwnedMutexGuard};
 use tokio::task::JoinHandle;
 
 use crate::refused;
 
 /// Events other than requests that wait: of more the oldest is dropped.
 const MOST_NOTICES: usize = 1000;
+/// Events that are taken before other tasks have their turn.
+const MOST_EVENTS: usize = 1024;
+/// What is left to a call that waited until its time was nearly over: 0 isn't a timeout.
+const LEAST_TIMEOUT: Duration = Duration::from_millis(1);
 /// How often a drain looks whether all is settled.
 const DRAINING: Duration = Duration::from_millis(5);
 
@@ -43,8 +47,13 @@ struct State {
     /// Requests, of which the service has [`Options::max_requests`](deltat_udp::Options::max_requests) at most.
     requests: VecDeque<Event<Vec<u8>>>,
     notices: VecDeque<Event<Vec<u8>>>,
+    /// Of each flow on which somebody calls or replies now: whoever is first tries, and the others wait.
+    lines: HashMap<Flow, Line>,
     failure: Option<Error>,
 }
+
+type End = oneshot::Receiver<Result<Vec<u8>, Error>>;
+type Line = Arc<tokio::sync::Mutex<()>>;
 
 /// The descriptor of a service, which the state has.
 struct Descriptor(RawFd);
@@ -73,6 +82,7 @@ impl AsyncCalls {
             ends: HashMap::new(),
             requests: VecDeque::new(),
             notices: VecDeque::new(),
+            lines: HashMap::new(),
             failure: None,
         };
         let (sent, turned) = (Notify::new(), Notify::new());
@@ -81,27 +91,38 @@ impl AsyncCalls {
         Ok(AsyncCalls { shared, task: Arc::new(task) })
     }
 
-    /// Makes a call from a caller's port, and returns its answer. If the future is dropped the call continues,
-    /// and its end is dropped.
+    /// Makes a call from a caller's port, as soon as there is room for it, and returns its answer. Calls of one
+    /// flow are made in the order in which they were awaited; the time passes while they wait. If the future
+    /// is dropped, a call that was made continues, and its end is dropped.
     ///
     /// # Errors
     ///
     /// `Unsure`: the call was served once, not at all, or will be. Others: it wasn't made, as of
-    /// [`Handle::call`]; or the driver failed, and it is unsure.
+    /// [`Handle::call`], `Full` and `TooManyCalls` only when the time is over; or the driver failed, and it
+    /// is unsure.
     pub async fn call(
         &self,
         flow: Flow,
         payload: &[u8],
         timeout: Duration,
     ) -> Result<Vec<u8>, Error> {
-        let end = {
-            let mut state = self.shared.usable()?;
-            let call = state.service.call(flow, payload, timeout)?;
-            let (ended, end) = oneshot::channel();
-            state.ends.insert(call, ended);
-            end
+        let begun = Instant::now();
+        let in_line = self.shared.in_line(flow);
+        let first = tokio::time::timeout(timeout, in_line.first()).await;
+        let first = first.map_err(|_| Error::Full { free: 0 })?;
+        let end = loop {
+            let turned = self.shared.turned.notified();
+            let left = timeout.saturating_sub(begun.elapsed());
+            let why = match self.shared.call(flow, payload, left.max(LEAST_TIMEOUT.min(timeout))) {
+                Ok(end) => break end,
+                Err(why @ (Error::Full { .. } | Error::TooManyCalls)) => why,
+                Err(why) => return Err(why),
+            };
+            if tokio::time::timeout(left, turned).await.is_err() {
+                return Err(why);
+            }
         };
-        self.shared.sent.notify_one();
+        drop((first, in_line));
         end.await.unwrap_or(Err(Error::Stopped))
     }
 
@@ -134,6 +155,8 @@ impl AsyncCalls {
     ///
     /// As of [`Handle::reply`], without `Full`.
     pub async fn reply(&self, token: Token, payload: &[u8]) -> Result<(), Error> {
+        let in_line = self.shared.in_line(token.flow.reversed());
+        let _first = in_line.first().await;
         loop {
             let turned = self.shared.turned.notified();
             let replied = self.shared.usable()?.service.reply(token, payload);
@@ -181,9 +204,41 @@ impl AsyncCalls {
     }
 }
 
+/// A place in the line of a flow, which is gone with the last of those who wait in it.
+struct InLine<'a> {
+    shared: &'a Shared,
+    flow: Flow,
+    line: Line,
+}
+
+impl InLine<'_> {
+    /// Waits until this is the first one.
+    async fn first(&self) -> OwnedMutexGuard<()> {
+        self.line.clone().lock_owned().await
+    }
+}
+
+impl Drop for InLine<'_> {
+    fn drop(&mut self) {
+        let mut state = self.shared.state();
+        // (those of the map and of this; more would be clones of others, which are made with the state locked)
+        if Arc::strong_count(&self.line) <= 2 {
+            state.lines.remove(&self.flow);
+        }
+    }
+}
+
 /// Takes what happens, and sends what tasks sent, until the service fails.
 async fn look_after(shared: Arc<Shared>, watched: AsyncFd<Descriptor>) {
-    while shared.turn() {
+    loop {
+        match shared.turn() {
+            Ok(true) => (),
+            Ok(false) => {
+                tokio::task::yield_now().await;
+                continue;
+            }
+            Err(why) => return shared.fail(why),
+        }
         tokio::select! {
             // (what arrives from here on makes it ready again)
             ready = watched.readable() => match ready {
@@ -208,17 +263,27 @@ impl Shared {
         Ok(state)
     }
 
-    /// Takes all events that there are; what was sent leaves. Whether the service can continue.
-    fn turn(&self) -> bool {
-        let taken = self.state().take_all();
-        match taken {
-            Ok(()) => self.turned.notify_waiters(),
-            Err(why) => {
-                self.fail(why);
-                return false;
-            }
-        }
-        true
+    fn in_line(&self, flow: Flow) -> InLine<'_> {
+        let line = self.state().lines.entry(flow).or_default().clone();
+        InLine { shared: self, flow, line }
+    }
+
+    /// Makes a call now. Its end comes by what is returned.
+    fn call(&self, flow: Flow, payload: &[u8], timeout: Duration) -> Result<End, Error> {
+        let mut state = self.usable()?;
+        let made = state.service.call(flow, payload, timeout);
+        // (what was made before leaves too, so that there is room again)
+        self.sent.notify_one();
+        let (ended, end) = oneshot::channel();
+        state.ends.insert(made?, ended);
+        Ok(end)
+    }
+
+    /// Takes events; what was sent leaves. Whether there are no more: else the descriptor says nothing.
+    fn turn(&self) -> Result<bool, Error> {
+        let is_done = self.state().take_some()?;
+        self.turned.notify_waiters();
+        Ok(is_done)
     }
 
     /// Ends all that waits with an error.
@@ -239,12 +304,17 @@ impl State {
         self.failure.clone().map_or(Ok(()), Err)
     }
 
-    fn take_all(&mut self) -> Result<(), Error> {
+    /// Takes events, and gives ends of calls to whoever waits for them. Whether there are no more.
+    fn take_some(&mut self) -> Result<bool, Error> {
         let State { service, ends, requests, notices, .. } = self;
-        while let Some(event) = service.next_event_within(Duration::ZERO)? {
+        for _ in 0..MOST_EVENTS {
+            let event = match service.next_event_within(Duration::ZERO)? {
+                Some(event) => event,
+                None => return Ok(true),
+            };
             let (call, end) = match event {
-                Event::Answered { call, octets } => (call, Ok(octets.to_vec())),
-                Event::Unsure { call, cause } => (call, Err(Error::Unsure { cause })),
+                Event::Answered { call, octets, .. } => (call, Ok(octets.to_vec())),
+                Event::Unsure { call, cause, .. } => (call, Err(Error::Unsure { cause })),
                 Event::Request { .. } => {
                     requests.push_back(event.into_owned());
                     continue;
@@ -261,7 +331,7 @@ impl State {
                 let _ = ended.send(end);
             }
         }
-        Ok(())
+        Ok(false)
     }
 }
 

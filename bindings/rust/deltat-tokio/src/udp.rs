@@ -8,12 +8,17 @@ use tokio::io::Interest;
 
 use crate::refused;
 
+/// Events that are handed out before other tasks have their turn.
+const MOST_EVENTS: u32 = 64;
+
 /// A node or a service whose events one task takes. It derefs to [`Handle`], for all other calls. Nothing is
 /// received, acknowledged or resent but while [`next_event`](AsyncUdp::next_event) is awaited: so a program
 /// that is slow holds its senders back.
 #[derive(Debug)]
 pub struct AsyncUdp<K: Kind> {
     udp: AsyncFd<Udp<K>>,
+    /// Events that were handed out since another task had its turn.
+    taken: u32,
 }
 
 impl<K: Kind> AsyncUdp<K> {
@@ -28,7 +33,7 @@ impl<K: Kind> AsyncUdp<K> {
     /// Outside of a runtime of tokio.
     pub fn new(udp: Udp<K>) -> Result<AsyncUdp<K>, Error> {
         let udp = AsyncFd::with_interest(udp, Interest::READABLE).map_err(refused)?;
-        Ok(AsyncUdp { udp })
+        Ok(AsyncUdp { udp, taken: 0 })
     }
 
     /// What happened next. If the future is dropped, no event is lost.
@@ -37,10 +42,16 @@ impl<K: Kind> AsyncUdp<K> {
     ///
     /// As of [`Udp::next_event`].
     pub async fn next_event(&mut self) -> Result<Event<Vec<u8>>, Error> {
+        if self.taken >= MOST_EVENTS {
+            self.taken = 0;
+            tokio::task::yield_now().await;
+        }
         loop {
             if let Some(event) = self.udp.get_mut().next_event_within(Duration::ZERO)? {
+                self.taken += 1;
                 return Ok(event.into_owned());
             }
+            self.taken = 0;
             // (what arrives from here on makes it ready again, and what arrived before is looked for)
             self.udp.readable_mut().await.map_err(refused)?.clear_ready();
         }

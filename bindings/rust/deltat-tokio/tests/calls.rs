@@ -45,7 +45,8 @@ async fn serve(service: AsyncCalls, count: usize) {
             left -= 1;
             let service = service.clone();
             tokio::spawn(async move {
-                service.reply(token, &octets.into_iter().rev().collect::<Vec<_>>()).await.unwrap();
+                let octets: Vec<u8> = octets.into_iter().rev().collect();
+                service.reply(token, &octets).await.unwrap();
             });
         }
     }
@@ -113,6 +114,35 @@ async fn wrong_calls_and_replies_are_refused() {
     let other = Flow { source_port: 11, ..FLOW };
     assert!(matches!(client.call(other, b"a", LONG).await, Err(Error::Invalid { .. })));
     assert_eq!(client.reply(Token { call: 7, flow: FLOW }, b"a").await, Err(Error::Gone));
+}
+
+#[tokio::test(flavor = "current_thread")]
+async fn calls_wait_for_room_until_their_time_is_over() {
+    let (client, service) = both();
+    let call = |timeout| {
+        let client = client.clone();
+        tokio::spawn(async move { client.call(FLOW, &[7; 1000], timeout).await })
+    };
+    // a flow has room for 65 of them; nobody takes them
+    let calls: Vec<_> = (0..100).map(|_| call(Duration::from_millis(200))).collect();
+    let (mut unsure, mut full) = (0, 0);
+    for it in calls {
+        match it.await.unwrap() {
+            Err(Error::Unsure { cause: Cause::Timeout }) => unsure += 1,
+            Err(Error::Full { .. }) => full += 1,
+            other => panic!("{other:?}"),
+        }
+    }
+    assert!(unsure >= 1 && unsure + full == 100, "{unsure} unsure, {full} full");
+    assert!(matches!(call(Duration::ZERO).await.unwrap(), Err(Error::Invalid { .. })));
+    // and now somebody does
+    let serving = tokio::spawn(serve(service.clone(), unsure + 100));
+    let calls: Vec<_> = (0..100).map(|_| call(LONG)).collect();
+    for it in calls {
+        assert_eq!(it.await.unwrap(), Ok(vec![7; 1000]));
+    }
+    client.drain(LONG).await.unwrap();
+    serving.await.unwrap();
 }
 
 #[tokio::test(flavor = "current_thread")]

@@ -64,12 +64,12 @@ fn ask(host: &str, port: u16, count: usize) -> Result<(), Box<dyn Error>> {
             under_way.insert(call, made);
         }
         match client.next_event()? {
-            Event::Answered { call, octets } => {
+            Event::Answered { call, octets, .. } => {
                 let number = under_way.remove(&call).ok_or("an answer to no call")?;
                 let own = str::from_utf8(octets)?.parse() == Ok(number);
                 println!("{} {number}", if own { "answered" } else { "another answer to" });
             }
-            Event::Unsure { call, cause } => {
+            Event::Unsure { call, cause, .. } => {
                 let number = under_way.remove(&call).ok_or("an end of no call")?;
                 println!("unsure {number} {cause:?}");
             }

@@ -38,7 +38,7 @@ fn a_call_is_answered_by_a_service_that_learns_its_client() {
             replied = true;
         }
         let event = client.next_event_within(Duration::from_millis(1)).unwrap();
-        if let Some(Event::Answered { call, octets }) = event {
+        if let Some(Event::Answered { call, octets, .. }) = event {
             answer = Some((call, octets.to_vec()));
         }
     }
@@ -120,8 +120,10 @@ fn a_call_that_nobody_serves_is_unsure() {
     drop(service);
     let made = client.call(FLOW, b"hello", Duration::from_micros(99_500)).unwrap();
     let begun = Instant::now();
-    let end = client.next_event().unwrap();
-    assert_eq!(end, Event::Unsure { call: made, cause: Cause::Timeout });
+    match client.next_event().unwrap() {
+        Event::Unsure { call, cause, .. } => assert_eq!((call, cause), (made, Cause::Timeout)),
+        other => panic!("{other:?}"),
+    }
     assert!(begun.elapsed() >= Duration::from_millis(99), "{:?}", begun.elapsed());
     assert_eq!(client.drain(Some(Duration::from_millis(1))), Ok(false));
 }
@@ -161,7 +163,8 @@ fn a_node_without_the_watch_is_counted() {
     let begun = Instant::now();
     while two.counts().without_trailer == 0 && begun.elapsed() < LONG {
         let _ = one.next_event_within(Duration::from_millis(1)).unwrap();
-        assert_eq!(two.next_event_within(Duration::from_millis(1)), Ok(None));
+        let event = two.next_event_within(Duration::from_millis(1)).unwrap();
+        assert!(!matches!(event, Some(Event::Message { .. })), "{event:?}");
     }
     assert!(two.counts().without_trailer > 0);
 }
@@ -353,4 +356,28 @@ fn fresh_numbers_differ_and_debug_shows_the_number() {
     assert!(one != two && one >= 65_536 && two >= 65_536);
     let node = Node::open(&options(one)).unwrap();
     assert!(format!("{node:?}").starts_with(&format!("Node {{ number: {one}, process: ")));
+}
+
+#[test]
+fn calls_that_grow_are_all_answered_soon() {
+    // (frames of growing sizes: those of a flow have to leave in their order, or a round brings one of them)
+    let (mut client, mut service) = services(&options(1));
+    for len in 0..200 {
+        client.call(FLOW, &vec![7; len], LONG).unwrap();
+    }
+    let mut answered = 0;
+    let begun = Instant::now();
+    while answered < 200 && begun.elapsed() < Duration::from_millis(2500) {
+        while let Some(event) = service.next_event_within(Duration::ZERO).unwrap() {
+            if let Event::Request { token, octets } = event {
+                let octets = octets.to_vec();
+                service.reply(token, &octets).unwrap();
+            }
+        }
+        if let Some(event) = client.next_event_within(Duration::from_millis(1)).unwrap() {
+            assert!(matches!(event, Event::Answered { .. }), "{event:?}");
+            answered += 1;
+        }
+    }
+    assert_eq!(answered, 200, "in {:?}", begun.elapsed());
 }
