@@ -8,6 +8,7 @@
 
 enum {
     FRAME_ROOM = DT_MAX_DATAGRAM + TRAILER,
+    PACKET_HEAD = 14, /* octets of a packet before those of its flow (docs/formats.md) */
     MAX_JOINED = 65000 /* octets that one UDP_SEGMENT call sends: below what fits into one datagram of IPv4 and IPv6 */
 };
 
@@ -72,11 +73,14 @@ static void add(dt_udp *u, struct peer *peer, struct iovec *part) {
 }
 
 /* An acknowledgement often waits before longer frames to the same peer. Behind them it leaves with them by one call,
- * and arrives with them too; the order of datagrams means nothing. */
+ * and arrives with them too. Frames with octets keep their order: a receiver without a shelf takes them in by their
+ * order only, so of two that changed places one would have to be sent again. */
 static bool moves_behind(const dt_udp *u, unsigned i) {
     const struct msghdr *one = &u->out.heads[i].msg_hdr, *many = &u->out.heads[i + 1].msg_hdr;
     size_t each = many->msg_iov[0].iov_len, count = many->msg_iovlen;
-    return u->out.peers[i] == u->out.peers[i + 1] && one->msg_iovlen == 1 && one->msg_iov->iov_len <= each &&
+    size_t bare = HEADER + PACKET_HEAD + (u->watching.on ? TRAILER : 0);
+    return u->out.peers[i] == u->out.peers[i + 1] && one->msg_iovlen == 1 && one->msg_iov->iov_len <= bare &&
+           bare <= each &&
            many->msg_iov[count - 1].iov_len == each && count < MAX_SEGMENTS && (count + 1) * each <= MAX_JOINED;
 }
 

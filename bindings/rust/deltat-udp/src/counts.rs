@@ -51,6 +51,8 @@ counts! {
     messages_too_long,
     /// Of the watch, dropped: the sender has no watch, or a later version of it.
     without_trailer,
+    /// Dropped: the sender has a watch, and this driver has none.
+    with_trailer,
     /// Of the watch, dropped: the age left no lifetime.
     too_old,
     /// Of the watch: datagrams that were kept until the sender had said how old they are.

@@ -524,11 +524,28 @@ impl Handle<Calls> {
     /// `Timeout` or `Total`. `OutOfMemory`: it may have been made, and the driver failed. `Stopped`,
     /// `OtherProcess`.
     pub fn call(&self, flow: Flow, payload: &[u8], timeout: Duration) -> Result<u64, Error> {
+        self.call_with(flow, payload, timeout, 0)
+    }
+
+    /// As [`call`](Handle::call), with a value that the event of its end has: so a program needs no table of calls
+    /// by their numbers.
+    ///
+    /// # Errors
+    ///
+    /// As of [`call`](Handle::call).
+    pub fn call_with(
+        &self,
+        flow: Flow,
+        payload: &[u8],
+        timeout: Duration,
+        user: u64,
+    ) -> Result<u64, Error> {
+        let (flow, timeout_ms) = (flow.into(), timeout_ms(timeout));
+        let options =
+            sys::dt_udp_call_options { timeout_ms, flow, user, ..sys::dt_udp_call_options::new() };
         let (octets, len) = (payload.as_ptr().cast(), payload.len());
-        // SAFETY: the flow is only read; pointer and length are those of a slice.
-        let it = unsafe {
-            sys::dt_udp_call(self.driver(), &flow.into(), octets, len, timeout_ms(timeout))
-        };
+        // SAFETY: the options are only read; pointer and length are those of a slice.
+        let it = unsafe { sys::dt_udp_make_call(self.driver(), &options, octets, len) };
         match it.status {
             c::DT_FULL => Err(Error::Full { free: it.free }),
             c::DT_QUIET => Err(Error::Quiet { until: it.quiet_until }),

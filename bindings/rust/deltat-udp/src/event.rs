@@ -28,6 +28,8 @@ pub enum Event<B> {
     Answered {
         /// The number of the call.
         call: u64,
+        /// What was passed to [`Handle::call_with`](crate::Handle::call_with) with it, else 0.
+        user: u64,
         /// The octets of the answer.
         octets: B,
     },
@@ -35,6 +37,8 @@ pub enum Event<B> {
     Unsure {
         /// The number of the call.
         call: u64,
+        /// What was passed to [`Handle::call_with`](crate::Handle::call_with) with it, else 0.
+        user: u64,
         /// Why it ended.
         cause: Cause,
     },
@@ -91,6 +95,9 @@ pub enum Alarm {
     Clock,
     /// The peer has other parameters.
     Parameters,
+    /// One of the two has a watch and the other hasn't: open both with [`Options::watch`](crate::Options::watch),
+    /// or both without. Happens once for each peer.
+    Watch,
     /// A cause that this crate doesn't know.
     Unknown(u8),
 }
@@ -114,6 +121,7 @@ impl Alarm {
         match cause {
             sys::DT_UDP_ALARM_CLOCK => Alarm::Clock,
             sys::DT_UDP_ALARM_PARAMETERS => Alarm::Parameters,
+            sys::DT_UDP_ALARM_WATCH => Alarm::Watch,
             other => Alarm::Unknown(other),
         }
     }
@@ -142,9 +150,11 @@ impl<'a> Event<&'a [u8]> {
                 Event::Message { flow: it.flow.into(), octets, gap: it.gap }
             }
             (sys::DT_UDP_EVENT_REQUEST, _) => Event::Request { token: it.token.into(), octets },
-            (sys::DT_UDP_EVENT_ANSWERED, _) => Event::Answered { call: it.call, octets },
+            (sys::DT_UDP_EVENT_ANSWERED, _) => {
+                Event::Answered { call: it.call, user: it.user, octets }
+            }
             (sys::DT_UDP_EVENT_UNSURE, _) => {
-                Event::Unsure { call: it.call, cause: Cause::from_number(it.cause) }
+                Event::Unsure { call: it.call, user: it.user, cause: Cause::from_number(it.cause) }
             }
             (sys::DT_UDP_EVENT_REPLY_UNCERTAIN, _) => {
                 Event::ReplyUncertain { flow: it.flow.into() }
@@ -175,11 +185,13 @@ impl<'a> Event<&'a [u8]> {
                 Event::Message { flow, octets: octets.to_vec(), gap }
             }
             Event::Request { token, octets } => Event::Request { token, octets: octets.to_vec() },
-            Event::Answered { call, octets } => Event::Answered { call, octets: octets.to_vec() },
+            Event::Answered { call, user, octets } => {
+                Event::Answered { call, user, octets: octets.to_vec() }
+            }
             Event::Object { object, peer, octets } => {
                 Event::Object { object, peer, octets: octets.to_vec() }
             }
-            Event::Unsure { call, cause } => Event::Unsure { call, cause },
+            Event::Unsure { call, user, cause } => Event::Unsure { call, user, cause },
             Event::ReplyUncertain { flow } => Event::ReplyUncertain { flow },
             Event::Report(report) => Event::Report(report),
             Event::TooBig { peer, len } => Event::TooBig { peer, len },

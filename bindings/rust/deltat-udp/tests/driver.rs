@@ -24,7 +24,7 @@ fn folder(name: &str) -> PathBuf {
 #[test]
 fn a_call_is_answered_by_a_service_that_learns_its_client() {
     let (mut client, mut service) = services(&options(1));
-    let made = client.call(FLOW, b"hello", LONG).unwrap();
+    let made = client.call_with(FLOW, b"hello", LONG, 77).unwrap();
     client.flush();
     let (mut replied, mut answer) = (false, None);
     while answer.is_none() {
@@ -38,12 +38,12 @@ fn a_call_is_answered_by_a_service_that_learns_its_client() {
             replied = true;
         }
         let event = client.next_event_within(Duration::from_millis(1)).unwrap();
-        if let Some(Event::Answered { call, octets, .. }) = event {
-            answer = Some((call, octets.to_vec()));
+        if let Some(Event::Answered { call, user, octets }) = event {
+            answer = Some((call, user, octets.to_vec()));
         }
     }
     assert!(replied);
-    assert_eq!(answer, Some((made, b"olleh".to_vec())));
+    assert_eq!(answer, Some((made, 77, b"olleh".to_vec())));
     let counts = service.counts();
     assert_eq!((counts.peers_learnt, counts.peers_moved, counts.clock_alarms), (1, 0, 0));
     assert!(counts.challenges_out >= 1 && counts.datagrams_in > 0 && counts.reads > 0);
@@ -157,15 +157,15 @@ fn other_parameters_are_an_alarm_and_counted() {
 }
 
 #[test]
-fn a_node_without_the_watch_is_counted() {
+fn a_node_without_the_watch_is_an_alarm_and_counted() {
     let (mut one, mut two) = nodes(&Options { watch: false, ..options(1) }, &options(2));
     one.send(FLOW, b"hello").unwrap();
-    let begun = Instant::now();
-    while two.counts().without_trailer == 0 && begun.elapsed() < LONG {
-        let _ = one.next_event_within(Duration::from_millis(1)).unwrap();
-        let event = two.next_event_within(Duration::from_millis(1)).unwrap();
-        assert!(!matches!(event, Some(Event::Message { .. })), "{event:?}");
-    }
+    let alarm = until(&mut one, &mut two, |number, event| match event {
+        Event::Alarm { alarm, .. } if number == 2 => Some(alarm),
+        Event::Message { .. } => panic!("nothing passes"),
+        _ => None,
+    });
+    assert_eq!(alarm, Alarm::Watch);
     assert!(two.counts().without_trailer > 0);
 }
 
