@@ -162,7 +162,7 @@ def bound(program: str) -> tuple[bool, str]:
     del program
     peaks, sums = [], []
     for flows in (1_000, 200_000):
-        tool = subprocess.Popen([*TOOL, "--flows", "500", "--listen", "0"], stdin=subprocess.PIPE, stderr=subprocess.PIPE)
+        tool = subprocess.Popen([*TOOL, "--all", "--flows", "500", "--listen", "0"], stdin=subprocess.PIPE, stderr=subprocess.PIPE)
         url = tool.stderr.readline().decode().split()[-1]
         for i in range(flows):
             tool.stdin.write(b"%d %d took %d:%d>%d:%d 3\n" % (i, i, i, i % 65536, i + 1, 7))

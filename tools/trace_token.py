@@ -328,7 +328,7 @@ def arguments() -> argparse.Namespace:
     it = argparse.ArgumentParser(description=__doc__, formatter_class=argparse.RawDescriptionHelpFormatter)
     it.add_argument("words", nargs="+", metavar="CAPTURE .. [TOKEN]", help="captures, and a call: FLOW#NUMBER")
     it.add_argument("--log", type=Path, action="append", default=[], help="the log of a node")
-    return it.parse_args()
+    return it.parse_intermixed_args()
 
 
 def log_lines(paths: list[Path]) -> list[str]:
