@@ -179,7 +179,7 @@ def counts(built: Built, folder: pathlib.Path) -> str:
     trips, _ = it.histogram(0)
     ages, _ = it.histogram(2)
     wants(sum(calls) == told["answered"] and call_us > 0, f"{sum(calls)} calls measured of {told}")
-    wants(sum(trips) > 100 and sum(ages) > 600, f"{sum(trips)} round trips, {sum(ages)} ages")
+    wants(sum(trips) > 20 and sum(ages) > 600, f"{sum(trips)} round trips, {sum(ages)} ages")
     wants(value(near, "unmeasured") == 0 and it.process == 0 and it.is_whole, "the end")
     return (f"600 calls, {told['answered']} answered, {sums['resent_segments']} segments sent again of "
             f"{relay.lost} datagrams lost; {sum(trips)} round trips, {sum(ages)} ages")

@@ -27,6 +27,7 @@ enum {
     FLOW_SETS = 1024, /* a power of 2, of WAYS flows each */
     WAYS = 4,
     MOST_CALLS = 65536,
+    KEEP_UP_US = 1000,
     PROBES = 8,
     /* a packet in a frame: docs/formats.md */
     MAKER_AT = 8,
@@ -204,6 +205,12 @@ void dtu_count_publish(dt_udp *u) {
     put(c, WORD_QUIET_UNTIL, quiet ? wall_ns(u, quiet * 1000) / 1000000 : 0);
     put(c, WORD_WRITTEN, wall_ns(u, now_us) / 1000000);
     end_look(c);
+    c->published_us = now_us;
+}
+
+/* Writes it if that wasn't done for a while: for a program that never waits. */
+void dtu_count_keep_up(dt_udp *u, uint64_t now_us) {
+    if (u->counting && now_us > u->counting->published_us + KEEP_UP_US) dtu_count_publish(u);
 }
 
 static void measured(struct counting *c, enum histogram which, uint64_t us) {
