@@ -1,11 +1,11 @@
 #!/usr/bin/env python3
 """tools/trace_token.py over a recorded run: `tests/trace_token.py`.
 
-A client makes calls to a service (tests/udp/ends.c) through a relay, which writes what it receives and what it passes on
-as two captures. The relay loses the first frame of chosen requests and answers, and swaps and repeats others. Of each
-call the tool must show its request, each frame that the relay saw, those that were sent again, and the answer; and of
-both captures which frame was lost. Then captures in other forms, one that is cut off, one that is damaged, a file that
-is none, and a call that isn't there.
+A client makes calls to a service (tests/udp/ends.c) through a relay, which writes what it receives and what it passes
+on as two captures. The relay loses each seventh segment that it sees for the first time. Of each call the tool must show
+its request, each frame that the relay saw, those that were sent again, and the answer; and by both captures which frames
+were lost. Then captures in other forms, one that is cut off, one that is damaged, a file that is none, a call that isn't
+there, and lines of a node's log.
 
 Ends with 77 where there is no compiler or no archive.
 
@@ -73,7 +73,9 @@ class Recording(Relay):
 
 
 def ran(*words: object) -> "subprocess.CompletedProcess[str]":
-    return subprocess.run([sys.executable, TOOL, *map(str, words)], capture_output=True, text=True, check=False, timeout=60)
+    return subprocess.run(
+        [sys.executable, TOOL, *map(str, words)], capture_output=True, text=True, check=False, timeout=60
+    )
 
 
 def recorded(built: Built, folder: pathlib.Path) -> Recording:
@@ -81,8 +83,19 @@ def recorded(built: Built, folder: pathlib.Path) -> Recording:
     service = End(built("ends"), "serve", "next", node=2, learns=10, r=4000)
     relay = Recording(service.port)
     relay.start()
-    words = ["ask", "next", "node=1", "peer=2", f"peer_host={HOST}", f"peer_port={relay.near_port}", f"count={CALLS}",
-             f"octets={OCTETS}", "many=3", "timeout=20000", "r=4000"]
+    words = [
+        "ask",
+        "next",
+        "node=1",
+        "peer=2",
+        f"peer_host={HOST}",
+        f"peer_port={relay.near_port}",
+        f"count={CALLS}",
+        f"octets={OCTETS}",
+        "many=3",
+        "timeout=20000",
+        "r=4000",
+    ]
     try:
         said = subprocess.run([built("ends"), *words], capture_output=True, text=True, timeout=60, check=True).stdout
     finally:
@@ -100,7 +113,17 @@ def listed(folder: pathlib.Path) -> list[str]:
     ran_ = ran(folder / "came.pcap")
     lines = ran_.stdout.splitlines()
     wants(ran_.returncode == 0 and len(lines) == CALLS, f"{ran_.returncode}, {len(lines)} calls: {ran_.stderr}")
-    wants(all(re.fullmatch(r"1:10>2:20#\d+: answered after [\d.]+ ms; request: \d+ frames, \d+ again; answer: \d+ frames, \d+ again", it) for it in lines), lines[0])
+    wants(
+        all(
+            re.fullmatch(
+                r"1:10>2:20#\d+: answered after [\d.]+ ms; request: \d+ frames, \d+ again; "
+                r"answer: \d+ frames, \d+ again",
+                it,
+            )
+            for it in lines
+        ),
+        lines[0],
+    )
     again = sum(int(it) for line in lines for it in re.findall(r"(\d+) again", line))
     wants(again > 5, f"{again} frames again")
     return [line.split(": ")[0] for line in lines]
@@ -116,7 +139,11 @@ def shown(folder: pathlib.Path, tokens: list[str], relay: Recording) -> int:
         asked, got = (eval(it.partition(" ")[2]) for it in lines[1:3])
         wants(len(asked) == len(got) == 40, f"{asked} {got}")
         came, went = (sum(f" {it}.pcap" in line and "life" in line for line in lines) for it in ("came", "went"))
-        first = {re.search(r"(request|answer).*: (\d+ octets from \d+)", line).groups() for line in lines if "came.pcap" in line and "life" in line}
+        first = {
+            re.search(r"(request|answer).*: (\d+ octets from \d+)", line).groups()
+            for line in lines
+            if "came.pcap" in line and "life" in line
+        }
         octets = sum(int(it[1].split()[0]) for it in first)
         wants(octets == 2 * (OCTETS + 8), f"{token}: {octets} octets are shown: {ran_.stdout}")
         losses += came - went
@@ -135,7 +162,9 @@ def others(folder: pathlib.Path, token: str) -> int:
     cut.write_bytes(plain[:-10])
     none.write_bytes(b"nothing of the kind" * 10)
     damaged.write_bytes(HEAD[:20] + b"\x99\0\0\0" + plain[24:])
-    blocks = struct.pack("<IIIHHqI", 0x0A0D0D0A, 28, 0x1A2B3C4D, 1, 0, -1, 28) + struct.pack("<IIHHII", 1, 20, 101, 0, 0, 20)
+    blocks = struct.pack("<IIIHHqI", 0x0A0D0D0A, 28, 0x1A2B3C4D, 1, 0, -1, 28) + struct.pack(
+        "<IIHHII", 1, 20, 101, 0, 0, 20
+    )
     at = 24
     while at < len(plain):
         seconds, part, length, _ = struct.unpack_from("<4I", plain, at)

@@ -220,14 +220,25 @@ def write_again(path: str, text: Text, every: float, ended: threading.Event) -> 
 
 def arguments() -> argparse.Namespace:
     parser = argparse.ArgumentParser(description=__doc__, formatter_class=argparse.RawDescriptionHelpFormatter)
-    parser.add_argument("--counters", metavar="PATH", type=pathlib.Path, action="append", default=[], help="a counters file, or a folder of them")
+    parser.add_argument(
+        "--counters",
+        metavar="PATH",
+        type=pathlib.Path,
+        action="append",
+        default=[],
+        help="a counters file, or a folder of them",
+    )
     parser.add_argument("--logs", metavar="FOLDER", type=pathlib.Path, help="the folder of a node's logs")
     parser.add_argument("--file", metavar="PATH", help="replace this file by the counts, again and again")
     parser.add_argument("--every", type=float, default=1.0, metavar="SECONDS", help="how often (default: %(default)s)")
     parser.add_argument("--listen", type=int, metavar="PORT", help="serve the counts on this port of 127.0.0.1; 0: any")
-    parser.add_argument("--flows", type=int, default=10_000, metavar="N", help="flows with counts of their own (default: %(default)s)")
+    parser.add_argument(
+        "--flows", type=int, default=10_000, metavar="N", help="flows with counts of their own (default: %(default)s)"
+    )
     parser.add_argument("--through", action="store_true", help="pass the log on to standard output")
-    parser.add_argument("--all", action="store_true", help="skip no line of a pipe, however long its writer waits; with --through too")
+    parser.add_argument(
+        "--all", action="store_true", help="skip no line of a pipe, however long its writer waits; with --through too"
+    )
     parser.add_argument("--level", default="INFO", choices=told.LEVELS, help="which lines of its own log are written")
     given = parser.parse_args()
     if given.every <= 0:

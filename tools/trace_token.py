@@ -1,6 +1,6 @@
 #!/usr/bin/env python3
-"""The whole way of one call, from a capture of the network: its request, each frame of it, what was sent again, what was
-acknowledged, and its answer.
+"""The whole way of one call, from a capture of the network: its request, each frame of it, what was sent again, what
+was acknowledged, and its answer.
 
     tcpdump -w run.pcap udp port 4002        (while it runs)
     tools/trace_token.py run.pcap                                lists the calls
@@ -50,8 +50,8 @@ class Flow(NamedTuple):
 
 @dataclass
 class Frame:
-    """A packet of a capture. `flow`: that of the data, also of an acknowledgement. `made`: when the step began that made
-    it, in us of its sender's clock, if its driver has a watch."""
+    """A packet of a capture. `flow`: that of the data, also of an acknowledgement. `made`: when the step began that
+    made it, in us of its sender's clock, if its driver has a watch."""
 
     at: float
     file: str
@@ -77,8 +77,12 @@ def _records(octets: bytes) -> Iterator[tuple[float, int, bytes]]:
     if magic == b"\x0a\x0d\x0d\x0a":
         yield from _blocks(octets)
         return
-    orders = {b"\xd4\xc3\xb2\xa1": ("<", 1e-6), b"\xa1\xb2\xc3\xd4": (">", 1e-6), b"\x4d\x3c\xb2\xa1": ("<", 1e-9),
-              b"\xa1\xb2\x3c\x4d": (">", 1e-9)}
+    orders = {
+        b"\xd4\xc3\xb2\xa1": ("<", 1e-6),
+        b"\xa1\xb2\xc3\xd4": (">", 1e-6),
+        b"\x4d\x3c\xb2\xa1": ("<", 1e-9),
+        b"\xa1\xb2\x3c\x4d": (">", 1e-9),
+    }
     if magic not in orders or len(octets) < 24:
         raise NoCapture("it is neither a pcap nor a pcapng file")
     order, unit = orders[magic]
@@ -213,7 +217,14 @@ class Messages:
         if frame.kind == ACKNOWLEDGEMENT:
             for it in own[-8:]:
                 if 0 < it.place(frame.number) <= max(len(it.octets), 1):
-                    it.frames.append((frame, "all is acknowledged" if it.is_whole and frame.number == it.end else "a part is acknowledged"))
+                    it.frames.append(
+                        (
+                            frame,
+                            "all is acknowledged"
+                            if it.is_whole and frame.number == it.end
+                            else "a part is acknowledged",
+                        )
+                    )
         elif frame.kind == DATA and not self._again(own, frame) and not self._further(own, frame):
             self._early.setdefault(frame.flow, []).append(frame)
 
@@ -300,12 +311,18 @@ def lines_of(call: Call, files: list[str], log: list[str]) -> Iterator[str]:
         step = ""
         if frame.made is not None:
             step = f"step {(frame.made - made.setdefault(sender, frame.made)) / 1000:.3f} of {sender}"
-        rows.append((frame.at, [f"{sender} -> {receiver}", said(frame, how, name), step, frame.file if len(files) > 1 else ""]))
+        rows.append(
+            (frame.at, [f"{sender} -> {receiver}", said(frame, how, name), step, frame.file if len(files) > 1 else ""])
+        )
     last = all_[-1][0].at
     for line in log:
         words = line.split(" ")
         moment = int(words[0]) / 1000
-        if len(words) > 3 and words[3] in (str(call.request.flow), str(call.request.flow.reversed())) and begun - 0.001 <= moment <= last + 0.001:
+        if (
+            len(words) > 3
+            and words[3] in (str(call.request.flow), str(call.request.flow.reversed()))
+            and begun - 0.001 <= moment <= last + 0.001
+        ):
             rows.append((moment, [f"turn of {words[1]}", " ".join(words[2:])[:80], "", ""]))
     yield f"{call}: {len(call.request.octets) - NAME} octets, {call.state}"
     yield f"request {bytes(call.request.octets[NAME : NAME + 40])!r}"
@@ -317,11 +334,14 @@ def lines_of(call: Call, files: list[str], log: list[str]) -> Iterator[str]:
 
 def counted(call: Call) -> str:
     """How many frames there were of it."""
+
     def how_many(it: Message | None, what: str) -> int:
         return sum(how == what and frame.kind == DATA for frame, how in it.frames) if it else 0
 
-    return (f"request: {how_many(call.request, 'first')} frames, {how_many(call.request, 'again')} again; "
-            f"answer: {how_many(call.answer, 'first')} frames, {how_many(call.answer, 'again')} again")
+    return (
+        f"request: {how_many(call.request, 'first')} frames, {how_many(call.request, 'again')} again; "
+        f"answer: {how_many(call.answer, 'first')} frames, {how_many(call.answer, 'again')} again"
+    )
 
 
 def arguments() -> argparse.Namespace:
@@ -352,7 +372,10 @@ def main() -> int:
     calls = calls_of(messages.all)
     chosen = [it for it in calls if str(it) == token]
     if token and not chosen:
-        print(f"trace_token.py: there is no call {token} in {len(frames)} frames; without it the calls are listed", file=sys.stderr)
+        print(
+            f"trace_token.py: there is no call {token} in {len(frames)} frames; without it the calls are listed",
+            file=sys.stderr,
+        )
         return 1
     for it in chosen:
         print("\n".join(lines_of(it, [path.name for path in paths], log)))
