@@ -11,7 +11,9 @@ milliseconds each way and so many of a hundred packets lost each way, and for ea
 
 Where a time is over, it says how many were answered till then. Then what the link's packets do that come once more,
 1.2 seconds later, to a server that runs on and to one that was killed and started again in between: how often the
-request is served.
+request is served. And a link of 20 ms each way that loses 15 of 100 packets, for 10 seconds, with a server that runs on
+and with one that is killed each 2 seconds: how many requests of new connections were served, and how many of them twice.
+`--only-served` measures these two alone.
 
 Peers are PEERS below: plain UDP that asks again (what the link can do), TCP, ENet, CoAP, UDT, QUIC, two nodes, and two
 nodes of the library over its driver (`make -C lib`), which sends 16 MiB as an object. The
@@ -28,6 +30,7 @@ import subprocess
 import sys
 import tempfile
 import zlib
+from collections import Counter
 from collections.abc import Callable, Sequence
 
 HERE = pathlib.Path(__file__).resolve().parent
@@ -43,6 +46,8 @@ NETWORKS = ["0/0", "0/5", "0/15", "20/0", "20/5", "20/15"]
 UP = 0.6
 # when a copy comes once more, and when a server is killed, after the client's start
 AGAIN_MS, KILLED_AFTER, LINGER = 1_200, 0.9, 2.5
+# how long requests are asked over the lossy link, how many at most, and how long a server lives there
+LOSSY, FIRSTS, LIVES = 10, 1_000, 2
 # the delay that the nodes' parameters allow for: what the link has, and what this machine adds under load
 ADDED_DELAY = 30
 
@@ -207,6 +212,20 @@ def served(peer: Peer, room: Room, is_killed: bool) -> str:
     return str(max((numbers.count(it) for it in set(numbers)), default=0))
 
 
+def served_twice(peer: Peer, room: Room, is_killed: bool) -> str:
+    """How many requests were served over a lossy link, and how many of them more than once."""
+    log, link = room.folder / "served", Link(20, 0.15)
+    log.write_text("")
+    serve = shlex.join(peer.words(room, link, ["serve", ADDRESSES[0], PORT, str(log)]))
+    ask = shlex.join(peer.words(room, link, ["ask", ADDRESSES[0], PORT, "first", str(FIRSTS), "100", str(LOSSY)]))
+    # (each has a session of its own, so that all of it is killed, and ends by itself after the last one)
+    starts = f"while true; do setsid timeout -s KILL {LOSSY + LINGER + 5} {serve} & it=$!; sleep {LIVES}; kill -9 -$it; wait $it; export AGAIN=1; done"
+    run(peer, link, starts if is_killed else f"exec {serve}", f"{ask} > /dev/null; sleep {LINGER}", ("lossy", LOSSY + LINGER + 2))
+    numbers = log.read_text().split()
+    twice = sum(count > 1 for count in Counter(numbers).values())
+    return f"{twice} of {len(set(numbers))}"
+
+
 def table(head: list[str], rows: list[list[str]]) -> None:
     widths = [max(len(it[at]) for it in [head, *rows]) for at in range(len(head))]
     for cells in [head, *rows]:
@@ -223,6 +242,9 @@ def measured_repeats(peers: list[Peer], room: Room) -> None:
     print("\na request is served so often, where all packets of its exchange come once more 1.2 s later")
     rows = [[it.name, served(it, room, False), served(it, room, True)] for it in peers if it.tells]
     table(["peer", "the server runs on", "it was killed and started again"], rows)
+    print(f"\nrequests that were served twice, of those that were served: 15 of 100 packets lost each way, {LOSSY} s")
+    rows = [[it.name, served_twice(it, room, False), served_twice(it, room, True)] for it in peers if it.tells]
+    table(["peer", "the server runs on", f"it is killed each {LIVES} s"], rows)
 
 
 def network_of(word: str) -> Link:
@@ -241,6 +263,7 @@ def main() -> int:
     reads.add_argument("program", nargs="?", default=str(PROGRAM))
     reads.add_argument("--peers", nargs="+", choices=[it.name for it in PEERS], metavar="NAME", help=", ".join(it.name for it in PEERS))
     reads.add_argument("--networks", nargs="+", type=network_of, default=[network_of(it) for it in NETWORKS], metavar="DELAY/LOSS")
+    reads.add_argument("--only-served", action="store_true", help="only how often requests are served")
     reads.add_argument("--part", type=float, default=1.0, metavar="P", help="the part of its seconds that each measure gets")
     given = reads.parse_args()
     if not os.access(given.program, os.X_OK):
@@ -250,7 +273,7 @@ def main() -> int:
         wanted = [it for it in PEERS if it.name in (given.peers or [it.name])]
         peers = [it for it in wanted if is_built(it, room)]
         try:
-            measured(peers, given.networks, room, given.part)
+            measured(peers, [] if given.only_served else given.networks, room, given.part)
             measured_repeats(peers, room)
         except (OSError, subprocess.CalledProcessError) as error:
             print(f"peers: there is no such link here, which needs root, ip and /dev/net/tun: {error}", file=sys.stderr)

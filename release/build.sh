@@ -111,6 +111,7 @@ find "$root/usr/lib/deltat" -name __pycache__ -prune -exec rm -rf {} +
 find "$root/usr/lib/deltat" -type f ! -perm -100 -exec chmod 644 {} +
 install -m 644 "$top/tools/wireshark/deltat.lua" "$root/usr/lib/$triplet/wireshark/plugins/deltat.lua"
 install -m 644 "$top/release/deltat-node@.service" "$root/lib/systemd/system/deltat-node@.service"
+install -m 644 "$top/release/deltat-counters.service" "$root/lib/systemd/system/deltat-counters.service"
 install -m 644 "$top/release/deltat.bash" "$root/usr/share/bash-completion/completions/deltat"
 install -m 644 "$top/release/_deltat" "$root/usr/share/zsh/vendor-completions/_deltat"
 install -m 644 "$top/release/overrides" "$root/usr/share/lintian/overrides/deltat"

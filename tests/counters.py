@@ -40,15 +40,14 @@ def read(text: str) -> Samples:
     family = kind = ""
     seen: set[str] = set()
     for line in text.split("\n")[:-1]:
-        if line.startswith("# HELP "):
-            family, kind = line.split(" ")[2], ""
-            if family in seen:
-                raise ValueError(f"{family} stands twice")
-            seen.add(family)
-        elif line.startswith("# TYPE "):
-            if line.split(" ")[2] != family or line.split(" ")[3] not in ("counter", "gauge"):
+        if line.startswith("# TYPE "):
+            _, _, family, kind = line.split(" ")
+            if family in seen or kind not in ("counter", "gauge"):
                 raise ValueError(line)
-            kind = line.split(" ")[3]
+            seen.add(family)
+        elif line.startswith("# HELP "):
+            if line.split(" ")[2] != family:
+                raise ValueError(line)
         else:
             found = SAMPLE.fullmatch(line)
             if not found or found[1] != family or (kind == "counter") != family.endswith("_total") or (found[1], found[2] or "") in samples:
@@ -145,7 +144,7 @@ def format(program: str) -> tuple[bool, str]:
     text = subprocess.run([*TOOL], input=replay(program, (ROOT / "examples/loss-repeat-restart.schedule").read_bytes()), capture_output=True, check=True).stdout
     samples = read(text.decode())
     refused = 0
-    for wrong in (text[:-1], text[:-40], text + text, text.replace(b"# TYPE", b"# TIPE", 1), text.replace(b'node="1"', b'node=1', 1)):
+    for wrong in (text[:-1], text[:-40], text + text, text.replace(b"# HELP deltat_taken", b"# HELP deltat_sent", 1), text.replace(b'node="1"', b'node=1', 1)):
         try:
             read(wrong.decode())
         except (ValueError, IndexError):
@@ -163,7 +162,7 @@ def bound(program: str) -> tuple[bool, str]:
     del program
     peaks, sums = [], []
     for flows in (1_000, 200_000):
-        tool = subprocess.Popen([*TOOL, "--flows", "500", "--listen", "0"], stdin=subprocess.PIPE, stderr=subprocess.PIPE)
+        tool = subprocess.Popen([*TOOL, "--all", "--flows", "500", "--listen", "0"], stdin=subprocess.PIPE, stderr=subprocess.PIPE)
         url = tool.stderr.readline().decode().split()[-1]
         for i in range(flows):
             tool.stdin.write(b"%d %d took %d:%d>%d:%d 3\n" % (i, i, i, i % 65536, i + 1, 7))
@@ -192,9 +191,11 @@ def noise(program: str) -> tuple[bool, str]:
     mixed = b"".join(it + b"\n" for line in log.splitlines() for it in [line, *chance.sample(wrong, 20)])
     plain, there = counted(log), counted(mixed)
     unread = there.pop(("deltat_unread_lines_total", ""))
+    read_all = there.pop(("deltat_counted_lines_total", "")) == mixed.count(b"\n")
+    plain.pop(("deltat_counted_lines_total", ""))
     expected = sum(line not in log.splitlines() and line != b"" for line in mixed.split(b"\n"))
     plain.pop(("deltat_unread_lines_total", ""))
-    return there == plain and unread == expected, f"{unread} of {expected} lines of noise are counted as such; the counts are {'the same' if there == plain else 'NOT the same'}"
+    return there == plain and unread == expected and read_all, f"{unread} of {expected} lines of noise are counted as such; the counts are {'the same' if there == plain else 'NOT the same'}"
 
 
 def through(program: str) -> tuple[bool, str]:

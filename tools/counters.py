@@ -145,16 +145,16 @@ class Lines:
         self._rest, self._is_long, self._is_left_out = b"", False, False
 
 
-def follow(source: BinaryIO, counts: Counts, out: BinaryIO | None) -> None:
+def follow(source: BinaryIO, counts: Counts, out: BinaryIO | None, skips: bool) -> None:
     """Counts the lines of a log until it ends, and passes them on if that is asked for. Half of a pipe that is full is
-    left out, since a node waits for whoever reads its log: so as much is counted as this machine can."""
+    left out (`skips`), since a node waits for whoever reads its log: so as much is counted as this machine can."""
     pipe, lines = Pipe(source), Lines(counts)
     while octets := os.read(source.fileno(), BLOCK):
         if out:
             out.write(octets)
             out.flush()
         lines.take(octets)
-        if not out and pipe.is_full:
+        if skips and pipe.is_full:
             lines.skip(os.read(source.fileno(), PIPE // 2))
     lines.end()
 
@@ -220,13 +220,25 @@ def write_again(path: str, text: Text, every: float, ended: threading.Event) -> 
 
 def arguments() -> argparse.Namespace:
     parser = argparse.ArgumentParser(description=__doc__, formatter_class=argparse.RawDescriptionHelpFormatter)
-    parser.add_argument("--counters", metavar="PATH", type=pathlib.Path, action="append", default=[], help="a counters file, or a folder of them")
+    parser.add_argument(
+        "--counters",
+        metavar="PATH",
+        type=pathlib.Path,
+        action="append",
+        default=[],
+        help="a counters file, or a folder of them",
+    )
     parser.add_argument("--logs", metavar="FOLDER", type=pathlib.Path, help="the folder of a node's logs")
     parser.add_argument("--file", metavar="PATH", help="replace this file by the counts, again and again")
     parser.add_argument("--every", type=float, default=1.0, metavar="SECONDS", help="how often (default: %(default)s)")
     parser.add_argument("--listen", type=int, metavar="PORT", help="serve the counts on this port of 127.0.0.1; 0: any")
-    parser.add_argument("--flows", type=int, default=10_000, metavar="N", help="flows with counts of their own (default: %(default)s)")
+    parser.add_argument(
+        "--flows", type=int, default=10_000, metavar="N", help="flows with counts of their own (default: %(default)s)"
+    )
     parser.add_argument("--through", action="store_true", help="pass the log on to standard output")
+    parser.add_argument(
+        "--all", action="store_true", help="skip no line of a pipe, however long its writer waits; with --through too"
+    )
     parser.add_argument("--level", default="INFO", choices=told.LEVELS, help="which lines of its own log are written")
     given = parser.parse_args()
     if given.every <= 0:
@@ -243,7 +255,7 @@ def count(given: argparse.Namespace, counts: Counts) -> None:
     if given.logs:
         follow_logs(given.logs, counts)
     elif not given.counters:
-        follow(sys.stdin.buffer, counts, sys.stdout.buffer if given.through else None)
+        follow(sys.stdin.buffer, counts, sys.stdout.buffer if given.through else None, not (given.all or given.through))
     elif given.file or given.listen is not None:
         threading.Event().wait()
 

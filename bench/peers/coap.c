@@ -70,7 +70,8 @@ static void ask_once(coap_session_t *session, uint32_t octets) {
     coap_add_token(it, len, token);
     coap_add_option(it, COAP_OPTION_URI_PATH, 1, (const uint8_t *)"o");
     unsigned char *body = request(octets);
-    if (!coap_add_data_large_request(session, it, HEAD + (size_t)octets, body, freed, body)) fail("a request isn't taken");
+    if (!coap_add_data_large_request(session, it, HEAD + (size_t)octets, body, freed, body))
+        fail("a request isn't taken");
     if (coap_send(session, it) == COAP_INVALID_MID) fail("a request isn't sent");
 }
 

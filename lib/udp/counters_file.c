@@ -1,9 +1,9 @@
 /* The counters file: what an operator asks of a living node, in a small file that is mapped (docs/formats.md).
  *
- * It is written by plain stores, without locks and without system calls, and a reader needs nothing of the driver: WORD_BEGUN
- * is raised before the words of a look are stored and WORD_ENDED after them, so a reader that finds both equal has all
- * of one look. The file is opened again by the next opening of the node, which counts on from what it finds. So no
- * counter ever falls, unless the file itself is lost.
+ * It is written by plain stores, without locks and without system calls, and a reader needs nothing of the driver:
+ * WORD_BEGUN is raised before the words of a look are stored and WORD_ENDED after them, so a reader that finds both
+ * equal has all of one look. The next opening of the node opens the file again, and counts on from what it finds. So
+ * no counter ever falls, unless the file itself is lost.
  *
  * What struct dt_udp_counts and the node don't count is counted here, by the datagrams that pass: the node's reports
  * are of no help, since a service has none and those of a driven node are the program's. */
@@ -27,6 +27,7 @@ enum {
     FLOW_SETS = 1024, /* a power of 2, of WAYS flows each */
     WAYS = 4,
     MOST_CALLS = 65536,
+    KEEP_UP_US = 1000,
     PROBES = 8,
     /* a packet in a frame: docs/formats.md */
     MAKER_AT = 8,
@@ -48,7 +49,9 @@ static const uint32_t BOUND_US[BOUNDS] = {100,   200,    500,    1000,   2000,  
 
 /* --- the file */
 
-static uint64_t get(const struct counting *c, int at) { return atomic_load_explicit(c->words + at, memory_order_relaxed); }
+static uint64_t get(const struct counting *c, int at) {
+    return atomic_load_explicit(c->words + at, memory_order_relaxed);
+}
 
 static void put(struct counting *c, int at, uint64_t value) {
     atomic_store_explicit(c->words + at, value, memory_order_relaxed);
@@ -84,8 +87,8 @@ static dt_status continue_file(const dt_udp *u, struct counting *c, struct dt_ud
     if (magic == 0) begin_file(u, c);
     else if (memcmp(&magic, MAGIC, sizeof magic) != 0 || get(c, WORD_VERSION) != VERSION ||
              get(c, WORD_COUNT) != COUNTERS_WORDS)
-        return dtu_refuse(error, DT_INVALID, 0, "%s isn't a counters file of version 1; remove it, or choose another path",
-                          path);
+        return dtu_refuse(error, DT_INVALID, 0,
+                          "%s isn't a counters file of version 1; remove it, or choose another path", path);
     if (get(c, WORD_NODE) != u->options.node)
         return dtu_refuse(error, DT_INVALID, 0, "%s has the counters of another node; choose another path", path);
     for (int i = 0; i < COUNTERS_WORDS; i++) c->base[i] = get(c, i);
@@ -204,6 +207,12 @@ void dtu_count_publish(dt_udp *u) {
     put(c, WORD_QUIET_UNTIL, quiet ? wall_ns(u, quiet * 1000) / 1000000 : 0);
     put(c, WORD_WRITTEN, wall_ns(u, now_us) / 1000000);
     end_look(c);
+    c->published_us = now_us;
+}
+
+/* Writes it if that wasn't done for a while: for a program that never waits. */
+void dtu_count_keep_up(dt_udp *u, uint64_t now_us) {
+    if (u->counting && now_us > u->counting->published_us + KEEP_UP_US) dtu_count_publish(u);
 }
 
 static void measured(struct counting *c, enum histogram which, uint64_t us) {

@@ -111,6 +111,7 @@ struct counting {
     uint64_t histograms[HISTOGRAMS][HISTOGRAM_WORDS];
     struct counted_flow *flows;
     struct counted_call *calls;
+    uint64_t published_us;
     uint64_t quiet_until; /* by a refusal, in ms of CLOCK_BOOTTIME */
     size_t call_places;   /* a power of 2 */
 };

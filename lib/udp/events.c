@@ -247,6 +247,7 @@ const struct dt_udp_event *dt_udp_next_event(dt_udp *u, int wait_ms) {
     if (u->event.kind == DT_UDP_EVENT_NONE) {
         dtu_write_all(u);
         dtu_loop_arm(u);
+        dtu_count_publish(u);
     }
     return &u->event;
 }

@@ -94,7 +94,7 @@ void dtu_loop_turn(dt_udp *u, int wait_ms) {
     dtu_strangers_greet(u, us / 1000);
     tick(u, us);
     dtu_govern_release(u);
-    dtu_count_publish(u);
+    dtu_count_keep_up(u, us);
 }
 
 dt_status dt_udp_drain(dt_udp *u, int wait_ms) {

@@ -616,6 +616,7 @@ dt_status dtu_count_open(dt_udp *u, struct dt_udp_error *error);
 void dtu_count_begin(dt_udp *u);
 void dtu_count_close(dt_udp *u);
 void dtu_count_publish(dt_udp *u);
+void dtu_count_keep_up(dt_udp *u, uint64_t now_us);
 void dtu_count_send(dt_udp *u, const struct dt_send_result *it);
 void dtu_count_call(dt_udp *u, const struct dt_call_result *it);
 void dtu_count_reply(dt_udp *u, const struct dt_reply_result *it);

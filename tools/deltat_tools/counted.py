@@ -13,8 +13,24 @@ from typing import NamedTuple
 
 MAGIC, VERSION, WORDS = b"deltatCF", 1, 512
 FIRST_COUNTER, FIRST_GAUGE, FIRST_HISTOGRAM, HISTOGRAM_WORDS = 16, 112, 128, 20
-BOUNDS_US = (100, 200, 500, 1_000, 2_000, 5_000, 10_000, 20_000, 50_000, 100_000, 200_000, 500_000, 1_000_000,
-             2_000_000, 5_000_000, 10_000_000)
+BOUNDS_US = (
+    100,
+    200,
+    500,
+    1_000,
+    2_000,
+    5_000,
+    10_000,
+    20_000,
+    50_000,
+    100_000,
+    200_000,
+    500_000,
+    1_000_000,
+    2_000_000,
+    5_000_000,
+    10_000_000,
+)
 BEGUN, ENDED = 5, 6
 TRIES = 100
 _LAYOUT = struct.Struct(f"={WORDS}Q")
@@ -44,8 +60,17 @@ COUNTERS: tuple[Name, ...] = (
     Name("datagrams_out", "Datagrams that the system took"),
     Name("dropped_datagrams", _REFUSED_IN, (("cause", "unknown"),)),
     *_cause("unsent_datagrams", "Datagrams that didn't leave, by cause", "cause", "late_or_refused", "too_big"),
-    *_cause("challenges", "Strangers that were asked to prove that they hear, and that weren't", "what", "sent", "withheld"),
-    *_cause("learnt_peers", "Peers that were learnt, that moved, that were forgotten", "what", "learnt", "moved", "forgotten"),
+    *_cause(
+        "challenges", "Strangers that were asked to prove that they hear, and that weren't", "what", "sent", "withheld"
+    ),
+    *_cause(
+        "learnt_peers",
+        "Peers that were learnt, that moved, that were forgotten",
+        "what",
+        "learnt",
+        "moved",
+        "forgotten",
+    ),
     Name("clock_steps", "How often the wall clock was set"),
     *_cause("lost_messages", "Messages that arrived and weren't handed out", "cause", "out_of_memory", "too_long"),
     *_cause("dropped_datagrams", _REFUSED_IN, "cause", "without_trailer", "too_old"),
@@ -63,8 +88,16 @@ COUNTERS: tuple[Name, ...] = (
     Name("accepted_octets", "Octets that arrived and could be read"),
     Name("read_octets", "Octets that were read"),
     *_cause("blocked_frames", "Frames that the guard blocked", "cause", "closed_port", "too_many_flows"),
-    *_cause("dropped_messages", "Messages of services that were dropped, by cause", "cause", "late_reply", "old_reply",
-            "unknown_reply", "reused_request", "incomplete"),
+    *_cause(
+        "dropped_messages",
+        "Messages of services that were dropped, by cause",
+        "cause",
+        "late_reply",
+        "old_reply",
+        "unknown_reply",
+        "reused_request",
+        "incomplete",
+    ),
     Name("sent_segments", "Segments that left for the first time"),
     Name("sent_octets", "Their octets"),
     Name("resent_segments", "Segments that left again"),
@@ -79,13 +112,34 @@ COUNTERS: tuple[Name, ...] = (
     Name("answered_calls", "Calls that were answered"),
     *_cause("unsure_calls", "Calls that ended unsure, by cause", "cause", "given_up", "timeout", "stopped"),
     Name("uncertain_replies", "Flows of requests whose replies were given up"),
-    *_cause("refused_sends", "Messages, calls and replies that were refused, by cause", "cause", "quiet", "full",
-            "too_many_calls", "life_used_up", "invalid", "gone", "other"),
-    *_cause("unusable_frames", "Frames that were passed to the node in vain, by cause", "cause", "malformed", "expired",
-            "blocked"),
+    *_cause(
+        "refused_sends",
+        "Messages, calls and replies that were refused, by cause",
+        "cause",
+        "quiet",
+        "full",
+        "too_many_calls",
+        "life_used_up",
+        "invalid",
+        "gone",
+        "other",
+    ),
+    *_cause(
+        "unusable_frames",
+        "Frames that were passed to the node in vain, by cause",
+        "cause",
+        "malformed",
+        "expired",
+        "blocked",
+    ),
     *_cause("alarms", "Alarms of the watch", "cause", "clock", "parameters", "watch"),
-    *_cause("unmeasured", "Flows and calls of which no round trip was measured, for want of a place", "what", "flows",
-            "calls"),
+    *_cause(
+        "unmeasured",
+        "Flows and calls of which no round trip was measured, for want of a place",
+        "what",
+        "flows",
+        "calls",
+    ),
 )
 GAUGES: tuple[Name, ...] = (
     Name("open_octets", "Octets that were queued and are neither acknowledged nor uncertain"),

@@ -23,47 +23,59 @@ LINE = re.compile(
 
 class Named(NamedTuple):
     """A metric: its name, what its labels are beside the node, and what it counts."""
+
     name: str
     labels: tuple[str, ...]
     about: str
     kind: str = "counter"
 
 
-NAMED = {it.name: it for it in [
-    Named("deltat_taken_octets_total", ("flow",), "Octets that were taken to be sent"),
-    Named("deltat_refused_sends_total", ("flow", "reason"), "Sends that were refused: quiet or full"),
-    Named("deltat_sent_segments_total", ("flow",), "Segments that went out for the first time"),
-    Named("deltat_sent_octets_total", ("flow",), "Their octets"),
-    Named("deltat_resent_segments_total", ("flow",), "Segments that went out again"),
-    Named("deltat_resent_octets_total", ("flow",), "Their octets"),
-    Named("deltat_rendezvous_total", ("flow",), "Rendezvous packets that went out"),
-    Named("deltat_settled_octets_total", ("flow",), "Octets that were acknowledged"),
-    Named("deltat_uncertain_octets_total", ("flow",), "Octets that were given up: they came or they didn't"),
-    Named("deltat_open_octets", ("flow",), "Octets that were taken and have no fate yet", "gauge"),
-    Named("deltat_window_octets", ("flow",), "The window of the last acknowledgement that was used", "gauge"),
-    Named("deltat_ignored_acknowledgements_total", ("flow",), "Acknowledgements that changed nothing"),
-    Named("deltat_accepted_segments_total", ("flow",), "Segments that were accepted"),
-    Named("deltat_accepted_octets_total", ("flow",), "Their octets"),
-    Named("deltat_accepted_runs_total", ("flow",), "Segments that were accepted with a run mark: a run began, or something was passed over"),
-    Named("deltat_acknowledgements_total", ("flow", "kind"), "Acknowledgements that went out: owed, or replies at once"),
-    Named("deltat_dropped_packets_total", ("flow",), "Packets that were dropped for want of a record"),
-    Named("deltat_closing_packets_total", ("flow",), "Closing packets of peers"),
-    Named("deltat_read_octets_total", ("flow",), "Octets that were read"),
-    Named("deltat_empty_reads_total", ("flow",), "Reads that found nothing"),
-    Named("deltat_released_records_total", ("flow", "record"), "Records that time released: send or receive"),
-    Named("deltat_renewed_records_total", ("flow",), "Send records that began again"),
-    Named("deltat_shelf_total", ("flow", "what"), "Data that came too early: shelved, noshelf, again or stale"),
-    Named("deltat_put_packets_total", ("link",), "Packets that left"),
-    Named("deltat_unsent_packets_total", ("link",), "Packets that the wire didn't take"),
-    Named("deltat_expired_packets_total", ("link", "way"), "Packets without life left: in or out"),
-    Named("deltat_full_link_packets_total", ("link",), "Packets that found a full link"),
-    Named("deltat_noroute_packets_total", (), "Packets without a route"),
-    Named("deltat_bad_datagrams_total", ("fault",), "Datagrams that don't read"),
-    Named("deltat_quiet_packets_total", (), "Packets that met quiet time"),
-    Named("deltat_restarts_total", (), "Restarts"),
-    Named("deltat_life", (), "The life of the node, from its last restart", "gauge"),
-    Named("deltat_moment_milliseconds", (), "The moment of the last line", "gauge"),
-]}
+NAMED = {
+    it.name: it
+    for it in [
+        Named("deltat_taken_octets_total", ("flow",), "Octets that were taken to be sent"),
+        Named("deltat_refused_sends_total", ("flow", "reason"), "Sends that were refused: quiet or full"),
+        Named("deltat_sent_segments_total", ("flow",), "Segments that went out for the first time"),
+        Named("deltat_sent_octets_total", ("flow",), "Their octets"),
+        Named("deltat_resent_segments_total", ("flow",), "Segments that went out again"),
+        Named("deltat_resent_octets_total", ("flow",), "Their octets"),
+        Named("deltat_rendezvous_total", ("flow",), "Rendezvous packets that went out"),
+        Named("deltat_settled_octets_total", ("flow",), "Octets that were acknowledged"),
+        Named("deltat_uncertain_octets_total", ("flow",), "Octets that were given up: they came or they didn't"),
+        Named("deltat_open_octets", ("flow",), "Octets that were taken and have no fate yet", "gauge"),
+        Named("deltat_window_octets", ("flow",), "The window of the last acknowledgement that was used", "gauge"),
+        Named("deltat_ignored_acknowledgements_total", ("flow",), "Acknowledgements that changed nothing"),
+        Named("deltat_accepted_segments_total", ("flow",), "Segments that were accepted"),
+        Named("deltat_accepted_octets_total", ("flow",), "Their octets"),
+        Named(
+            "deltat_accepted_runs_total",
+            ("flow",),
+            "Segments that were accepted with a run mark: a run began, or something was passed over",
+        ),
+        Named(
+            "deltat_acknowledgements_total",
+            ("flow", "kind"),
+            "Acknowledgements that went out: owed, or replies at once",
+        ),
+        Named("deltat_dropped_packets_total", ("flow",), "Packets that were dropped for want of a record"),
+        Named("deltat_closing_packets_total", ("flow",), "Closing packets of peers"),
+        Named("deltat_read_octets_total", ("flow",), "Octets that were read"),
+        Named("deltat_empty_reads_total", ("flow",), "Reads that found nothing"),
+        Named("deltat_released_records_total", ("flow", "record"), "Records that time released: send or receive"),
+        Named("deltat_renewed_records_total", ("flow",), "Send records that began again"),
+        Named("deltat_shelf_total", ("flow", "what"), "Data that came too early: shelved, noshelf, again or stale"),
+        Named("deltat_put_packets_total", ("link",), "Packets that left"),
+        Named("deltat_unsent_packets_total", ("link",), "Packets that the wire didn't take"),
+        Named("deltat_expired_packets_total", ("link", "way"), "Packets without life left: in or out"),
+        Named("deltat_full_link_packets_total", ("link",), "Packets that found a full link"),
+        Named("deltat_noroute_packets_total", (), "Packets without a route"),
+        Named("deltat_bad_datagrams_total", ("fault",), "Datagrams that don't read"),
+        Named("deltat_quiet_packets_total", (), "Packets that met quiet time"),
+        Named("deltat_restarts_total", (), "Restarts"),
+        Named("deltat_life", (), "The life of the node, from its last restart", "gauge"),
+        Named("deltat_moment_milliseconds", (), "The moment of the last line", "gauge"),
+    ]
+}
 UNREAD = "deltat_unread_lines_total"
 
 # Lines that are of one flow: how many words they have behind the report, and the counts that they raise:
@@ -128,7 +140,9 @@ class Counts:
 
     def _one_by_one(self, block: bytes) -> None:
         for line in block.split(b"\n")[:-1]:
-            if line and (len(line) >= LONGEST or not line.isascii() or not self._reads(line.decode("ascii").split(" "))):
+            if line and (
+                len(line) >= LONGEST or not line.isascii() or not self._reads(line.decode("ascii").split(" "))
+            ):
                 self._unread += 1
 
     def skip(self, lines: int) -> None:
@@ -196,8 +210,13 @@ class Counts:
         if report == "put" and numbers[:2] == [True, True] and int(words[0]) < 256:
             self._add("deltat_put_packets_total", (node, words[0]))
         elif report in ("unsent", "full") and numbers == [True] and int(words[0]) < 256:
-            self._add("deltat_unsent_packets_total" if report == "unsent" else "deltat_full_link_packets_total", (node, words[0]))
-        elif report == "expired" and len(words) == 2 and words[0] in ("in", "out") and numbers[1] and int(words[1]) < 256:
+            self._add(
+                "deltat_unsent_packets_total" if report == "unsent" else "deltat_full_link_packets_total",
+                (node, words[0]),
+            )
+        elif (
+            report == "expired" and len(words) == 2 and words[0] in ("in", "out") and numbers[1] and int(words[1]) < 256
+        ):
             self._add("deltat_expired_packets_total", (node, words[1], words[0]))
         elif report == "noroute" and numbers == [True]:
             self._add("deltat_noroute_packets_total", (node,))
