@@ -19,7 +19,7 @@ CALLS = {
     "serve": ("pwrite64", "fdatasync", "sendto", "recvfrom"),
 }
 ORDERS = 2
-MOST = 40
+MOST = 60
 
 
 def start(folder: pathlib.Path, word: str, kill: tuple[str, int] | None = None) -> "subprocess.Popen[bytes]":
