@@ -5,6 +5,7 @@
   nobody gave, in journals and notes that have it;
 - a bank doesn't keep the names of orders as it says: none, in memory, or in files, started again after each order;
 - the times in the table aren't those of the notes;
+- examples/bank/alarm.py doesn't name exactly the transfers that a set back took, or the bank by keys names any;
 - run for SECONDS (20), by calls an order is booked twice or told otherwise, the sum of the accounts changes, or an order
   isn't found out; the same over TCP with names in files that are synced; or nothing happened: too few orders, no kills,
   none that was unsure, no packets dropped or repeated.
@@ -129,8 +130,17 @@ def ran(seconds: str) -> list[tuple[str, bool, str]]:
     ]
 
 
+def alarmed() -> list[tuple[str, bool, str]]:
+    """The bank whose disk is set back."""
+    command = [sys.executable, str(TOP / "examples" / "bank" / "alarm.py"), "--clients", "3", "--transfers", "4"]
+    it = subprocess.run(command, capture_output=True, text=True, check=False, timeout=60)
+    numbers = [line[52:].split() for line in it.stdout.splitlines()[1:]]
+    wanted = [["27", "27"], ["12", "12"], ["12", "0"], ["0", "0"]]
+    return [("each client is told what a set back took", it.returncode == 0 and numbers == wanted, it.stdout + it.stderr)]
+
+
 def main() -> int:
-    return tell([*judged(), *named(), *timed(), *ran(sys.argv[1] if len(sys.argv) > 1 else "20")])
+    return tell([*judged(), *named(), *timed(), *alarmed(), *ran(sys.argv[1] if len(sys.argv) > 1 else "20")])
 
 
 if __name__ == "__main__":

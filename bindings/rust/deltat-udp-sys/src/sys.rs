@@ -67,7 +67,7 @@ pub const DT_UDP_EVENT_FAILED: u8 = 9;
 pub const DT_UDP_EVENT_REPLY_UNCERTAIN: u8 = 10;
 /// nothing of `peer` passes any more, as `cause` says
 pub const DT_UDP_EVENT_ALARM: u8 = 11;
-/// after a DT_FULL: there may be room again
+/// after a DT_FULL of any call: there may be room again
 pub const DT_UDP_EVENT_ROOM: u8 = 12;
 
 // `enum dt_udp_alarm`: `cause` of DT_UDP_EVENT_ALARM: once for each opening of the peer
@@ -759,10 +759,10 @@ extern "C" {
     ) -> dt_send_result;
 
     /// Makes a call, which ends within `timeout_ms` by an event; of a service. As dt_service_call. If as much is
-    /// under way to the target as its delay allows, the call waits in the driver, in the order of the calls, and
-    /// its time passes.
+    /// under way to the target as its delay allows, the call waits in the driver, behind those of its flow, and its
+    /// time passes.
     ///
-    /// - `DT_FULL`: also: options.max_waiting octets wait already; DT_UDP_EVENT_ROOM follows
+    /// - `DT_FULL`: also: options.max_waiting octets wait already; DT_UDP_EVENT_ROOM follows in each case
     /// - `DT_NOT_OPEN`: also: the driver is a node's, failed, or is in a forked child
     pub fn dt_udp_call(
         udp: *mut dt_udp,
