@@ -57,7 +57,12 @@ def one_at_a_time(folder: pathlib.Path, seconds: float) -> tuple[int, float, flo
 
 async def many(folder: pathlib.Path, seconds: float, lanes: int) -> tuple[int, float, float, float]:
     """Orders, seconds, and the syncs an order of the client and of the server, which takes what waits together."""
-    bank, log, waiting, commits = served(folder), Counted(folder / "log"), list[tuple[bytes, asyncio.Future[bytes]]](), 0
+    bank, log, waiting, commits = (
+        served(folder),
+        Counted(folder / "log"),
+        list[tuple[bytes, asyncio.Future[bytes]]](),
+        0,
+    )
     loop = asyncio.get_running_loop()
 
     def serve() -> None:
@@ -91,7 +96,9 @@ async def many(folder: pathlib.Path, seconds: float, lanes: int) -> tuple[int, f
 def main() -> int:
     reads = argparse.ArgumentParser(description=__doc__, formatter_class=argparse.RawDescriptionHelpFormatter)
     reads.add_argument("--seconds", type=float, default=5.0)
-    reads.add_argument("--folder", type=pathlib.Path, default=None, help="where the stores are: on the disk that is meant")
+    reads.add_argument(
+        "--folder", type=pathlib.Path, default=None, help="where the stores are: on the disk that is meant"
+    )
     given = reads.parse_args()
     print(f"load {os.getloadavg()[0]:.1f}")
     with tempfile.TemporaryDirectory(dir=given.folder) as name:

@@ -160,12 +160,7 @@ class Disk:
     def lose_power(self, run):
         """A first part of what wasn't synced is left."""
         left, last = [self.tip], self.durable
-        if (
-            run.rules.broken == "what was synced stays"
-            and last.parent
-            and last.parent.state.opens
-            and run.pick() < 0.5
-        ):
+        if run.rules.broken == "what was synced stays" and last.parent and last.parent.state.opens and run.pick() < 0.5:
             last = last.parent
         while left[-1] is not last:
             left.append(left[-1].parent)
@@ -286,9 +281,7 @@ class Node:
         new.known = self.known
         self.commit(new)
         self.fresh.add(lane)
-        self.run.say(
-            self, f"notes order {uid}: lane {lane} number {last + 1} tag {new.nonce} since {at(self.known)}"
-        )
+        self.run.say(self, f"notes order {uid}: lane {lane} number {last + 1} tag {new.nonce} since {at(self.known)}")
         return True
 
     def attempt(self, lane, how="made"):
@@ -689,9 +682,7 @@ class Run:
         if client.out.server.name in self.set_back_nodes:
             new = self.commits[heard[1:]]
             for old in self.heard.get(client.name, ()):
-                holds(
-                    is_on(old, new) or is_on(new, old), "T6: a client isn't told that what it was told DONE is gone"
-                )
+                holds(is_on(old, new) or is_on(new, old), "T6: a client isn't told that what it was told DONE is gone")
 
     def alarmed(self, client):
         server = client.out.server
@@ -1074,9 +1065,7 @@ class Run:
                 subs = Counter(self.ordered_by[sub] for sub in noted)
                 for uid in state.done:
                     if uid in self.chained:
-                        holds(
-                            subs[uid] == 1, f"T8: order {uid} was executed, and {subs[uid]} orders of it were noted"
-                        )
+                        holds(subs[uid] == 1, f"T8: order {uid} was executed, and {subs[uid]} orders of it were noted")
 
 
 # --- single runs, told line by line

@@ -80,7 +80,13 @@ class World:
     # the wire, and what happens beside it
 
     def sends(self, request: bytes) -> bytes:
-        for what, likely in ((self.lose, 0.1), (self.hold, 0.1), (self.reopen, 0.05), (self.set_back, 0.03), (self.forget, 0.01)):
+        for what, likely in (
+            (self.lose, 0.1),
+            (self.hold, 0.1),
+            (self.reopen, 0.05),
+            (self.set_back, 0.03),
+            (self.forget, 0.01),
+        ):
             if self.chance.random() < likely:
                 what(request)
         if self.late and self.chance.random() < 0.2:

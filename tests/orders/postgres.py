@@ -10,7 +10,9 @@ from collections.abc import Iterator
 
 from deltat import orders
 
-PROGRAMS = sorted(pathlib.Path("/usr/lib/postgresql").glob("*/bin")) if pathlib.Path("/usr/lib/postgresql").exists() else []
+PROGRAMS = (
+    sorted(pathlib.Path("/usr/lib/postgresql").glob("*/bin")) if pathlib.Path("/usr/lib/postgresql").exists() else []
+)
 if importlib.util.find_spec("psycopg") is None and pathlib.Path("/usr/lib/python3/dist-packages/psycopg").exists():
     # (Debian's, for a Python that isn't)
     sys.path.append("/usr/lib/python3/dist-packages")
@@ -90,5 +92,9 @@ def cases() -> list[tuple[str, bool, str]]:
     return [
         ("orders that come twice over PostgreSQL are done once", sorted(rows) == sorted(bodies), str(rows)),
         ("each fate has its result", fates == [orders.Done(b"did " + it) for it in bodies], str(fates)),
-        ("a client that lost its store is told of it", again == [orders.Done(b"did d")] or again == [orders.Unknown()], str(again)),
+        (
+            "a client that lost its store is told of it",
+            again == [orders.Done(b"did d")] or again == [orders.Unknown()],
+            str(again),
+        ),
     ]

@@ -167,7 +167,12 @@ class Twin(model.Node):
     def lane_octets(self, lane: int, record: int, **flags: bool) -> bytes:
         last, order = self.state.lanes.get(lane, model.NOTHING)
         spelled = (1, uid_of(order[0]), *order[1:3], *known(order[3])) if order else (0,) * 7
-        is_now = {"fresh": lane in self.fresh, "cancelled": lane in self.cancels, "calling": lane in self.calling, **flags}
+        is_now = {
+            "fresh": lane in self.fresh,
+            "cancelled": lane in self.cancels,
+            "calling": lane in self.calling,
+            **flags,
+        }
         return words(lane, last, *spelled, is_now["fresh"], is_now["cancelled"], is_now["calling"], record)
 
     def lane_of(self, lane: int, **flags: bool) -> OrdersLane:
@@ -260,9 +265,25 @@ def run(seeds: range) -> str:
 def refused() -> str:
     """Which octets that spell nothing aren't refused."""
     good = words(1, 0, 1, 2, 0, 3, 4, 5, 6, 1, 0, 3, 4, 1)
-    bad = [b"", good[:-1], good + b"\0", *(good[:at] + octets + good[at + 8 :] for at, octets in (
-        (0, words(0)), (0, words(4)), (8, words(1 << 32)), (16, words(1 << 63)), (32, words(1 << 32)), (64, words(1 << 32)),
-        (72, words(2)), (80, words(1 << 32)), (104, words(2))))]
+    bad = [
+        b"",
+        good[:-1],
+        good + b"\0",
+        *(
+            good[:at] + octets + good[at + 8 :]
+            for at, octets in (
+                (0, words(0)),
+                (0, words(4)),
+                (8, words(1 << 32)),
+                (16, words(1 << 63)),
+                (32, words(1 << 32)),
+                (64, words(1 << 32)),
+                (72, words(2)),
+                (80, words(1 << 32)),
+                (104, words(2)),
+            )
+        ),
+    ]
     if library.dt_orders_look_up(good, len(good), OrdersLook()) != Status.OK:
         return "a good request is refused"
     return ", ".join(it.hex() for it in bad if library.dt_orders_look_up(it, len(it), OrdersLook()) != Status.INVALID)

@@ -1346,6 +1346,6 @@ class Served:
 
     def run(self, calls: Calls, port: int, seconds: float | None = None) -> None:
         """Serves a port of a node, until no request arrived for this many seconds (None: until the socket is closed).
-        Requests that wait together are one transaction. Raises what the database raises."""
+        Each request is a transaction of its own; `handle_all` takes several. Raises what the database raises."""
         calls.on(port)(lambda request: self.handle(request.token.flow.source, request.payload))
         calls.run(seconds)
