@@ -5,7 +5,7 @@
  * One of five datagrams is lost. It ends with 0 if all octets that arrived are right, and prints what the arena held. */
 #include "deltat.h"
 
-enum { ARENA = 1 << 21, HANDLE = 1 << 16, ALIGN = 16, SECONDS = 20, STEP = 10, EVERY = 100, LONGEST = 300 };
+enum { ARENA = 1 << 16, HANDLE = 1 << 12, ALIGN = 16, SECONDS = 20, STEP = 10, EVERY = 100, LONGEST = 300 };
 
 struct tried { bool ok; uint8_t *p; };
 struct tried rattle_alloc(size_t size, size_t align);
