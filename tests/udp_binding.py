@@ -322,6 +322,45 @@ def idle() -> str:
     return "2.3 s, and without end"
 
 
+def busy_at_first() -> str:
+    """A client that is busy after its first call: the exchange by which the ends learn each other's clocks is slow, and
+    its width doesn't make everything too old that comes after it."""
+    params, charge = deltat.Params.for_network(deltat.Network(delay_us=2_000, round_trip_us=1_000, wait_ms=50))
+    there, here, flow, over = free_port(), free_port(), deltat.Flow(1, CALLER, 2, SERVICE), threading.Event()
+    found: dict[str, int] = {}
+
+    def serves() -> None:
+        node = deltat.Service(2, 1, params, [deltat.Link(1, charge)], {1: 1}, start=Start.FIRST)
+        node.set_port(SERVICE, PortKind.SERVICE)
+        with deltat.Udp(node, (HOST, there), {1: (HOST, here)}) as udp:
+            requests = deltat.Calls(udp)
+            requests.on(SERVICE)(lambda request: request.payload[::-1])
+            while not over.is_set():
+                # (a look, and no wait: a program may have a loop of its own)
+                requests.run(0)
+                time.sleep(0.001)
+            found.update(udp.counts)
+
+    serving = threading.Thread(target=serves)
+    serving.start()
+    node = deltat.Service(1, 1, params, [deltat.Link(1, charge)], {2: 1}, start=Start.FIRST)
+    node.set_port(CALLER, PortKind.CALLER)
+    answered = 0
+    with deltat.Udp(node, (HOST, here), {2: (HOST, there)}) as udp:
+        made = deltat.Calls(udp)
+        at = deltat.now()
+        node.call(flow, b"first", 300, at)
+        udp.flush(at)
+        time.sleep(0.2)
+        for _ in range(20):
+            with contextlib.suppress(Unsure):
+                answered += made.call(flow, b"hello", timeout=0.3) == b"olleh"
+    over.set()
+    serving.join()
+    wants(answered > 10 and found["too_old"] < 6, f"{answered} answered, {found['too_old']} too old")
+    return f"{answered} of 20 calls after a stop, {found['too_old']} datagrams too old"
+
+
 def unlisted() -> str:
     """A client by `deltat.Udp` that its service doesn't list answers the challenge, and is answered; its state folder
     has what the driver passed in."""
@@ -541,7 +580,21 @@ def short() -> str:
     return f"{ran} clients"
 
 
-CASES = [calls, at_once, messages, uncertain, errors, neighbours, idle, unlisted, alarms, recorded, large, short]
+CASES = [
+    calls,
+    at_once,
+    messages,
+    uncertain,
+    errors,
+    neighbours,
+    idle,
+    busy_at_first,
+    unlisted,
+    alarms,
+    recorded,
+    large,
+    short,
+]
 
 
 def main() -> int:

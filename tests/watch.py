@@ -87,7 +87,7 @@ class Programs:
     def __init__(self, folder: pathlib.Path) -> None:
         self.folder = folder
         self.made = 0
-        codec = [str(TOP / "lib" / "udp" / f"{it}.c") for it in ("trailer", "octets")]
+        codec = [str(TOP / "lib" / "udp" / "trailer.c")]
         for name, more in (
             ("relay", ()),
             ("form", codec),

@@ -64,6 +64,7 @@ dt_status dt_udp_open_port(dt_udp *u, uint16_t port, uint8_t kind) {
 static dt_status begin(dt_udp *u, const void *handle, uint64_t *at) {
     if (!dtu_is_usable(u)) return u->failed;
     if (handle == NULL) return DT_NOT_OPEN;
+    dtu_driven_send_made(u);
     uint64_t us = dtu_clock_us();
     *at = us / 1000;
     return dtu_begin(u, us) ? DT_OK : u->failed;
@@ -104,33 +105,6 @@ struct dt_send_result dt_udp_send(dt_udp *u, const struct dt_flow *flow, const v
     return sent;
 }
 
-/* --- the users of calls that wait */
-
-static struct user **user_at(const dt_udp *u, uint64_t call) {
-    struct user **it = &u->users[call % USERS];
-    while (*it && (*it)->call != call) it = &(*it)->next;
-    return it;
-}
-
-/* What a call that waited was given as its user, which is forgotten then. */
-uint64_t dtu_calls_user(dt_udp *u, uint64_t call) {
-    struct user **place = u->users ? user_at(u, call) : NULL, *it = place ? *place : NULL;
-    if (it == NULL) return 0;
-    uint64_t user = it->user;
-    *place = it->next;
-    free(it);
-    return user;
-}
-
-void dtu_calls_close(dt_udp *u) {
-    for (size_t i = 0; u->users && i < USERS; i++)
-        for (struct user *it = u->users[i], *next; it; it = next) {
-            next = it->next;
-            free(it);
-        }
-    free(u->users);
-}
-
 /* --- calls and replies */
 
 /* Whether the library would take such a call, so that it may wait: what is wrong is said at once. */
@@ -139,23 +113,6 @@ static bool may_wait(const dt_udp *u, const struct dt_udp_call_options *o, size_
     bool open = u->ports.open[flow->source_port / 8] >> flow->source_port % 8 & 1;
     return open && flow->source == u->options.node && flow->target != flow->source && o->timeout_ms > 0 &&
            len + 8 <= u->options.params->cap && at >= u->quiet_until;
-}
-
-/* Keeps a call until it may enter. */
-static struct dt_call_result keep(dt_udp *u, struct peer *peer, const struct dt_udp_call_options *o,
-                                  const struct iovec *payload) {
-    struct dt_call_result none = {.status = DT_NO_MEMORY};
-    struct user *it = NULL;
-    if (o->user && u->users == NULL) u->users = calloc(USERS, sizeof *u->users);
-    if (o->user && (u->users == NULL || (it = malloc(sizeof *it)) == NULL)) return none;
-    struct dt_call_result made = dtu_govern_keep_call(u, peer, &o->flow, payload, o->timeout_ms);
-    if (made.status != DT_OK) free(it);
-    else if (it) {
-        struct user **bucket = &u->users[made.call % USERS];
-        *it = (struct user){.next = *bucket, .call = made.call, .user = o->user};
-        *bucket = it;
-    }
-    return made;
 }
 
 struct dt_call_result dt_udp_make_call(dt_udp *u, const struct dt_udp_call_options *o, const void *octets,
@@ -168,7 +125,7 @@ struct dt_call_result dt_udp_make_call(dt_udp *u, const struct dt_udp_call_optio
     struct peer *peer = dtu_peers_find(&u->peers, o->flow.target);
     struct dt_call_result made;
     if (may_wait(u, o, len, at) && dtu_govern_waits(u, peer, &o->flow, len)) {
-        made = keep(u, peer, o, &payload);
+        made = dtu_govern_keep_call(u, peer, o, &payload);
         dtu_count_call(u, &made);
         return made;
     }

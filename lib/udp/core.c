@@ -153,12 +153,6 @@ struct dt_call_result dtu_core_make_call(struct core *core, uint64_t now, const 
     return it;
 }
 
-struct dt_call_result dtu_core_call(struct core *core, uint64_t now, const struct dt_flow *flow,
-                                    const struct iovec *octets, uint32_t timeout_ms) {
-    struct dt_udp_call_options options = {.flow = *flow, .timeout_ms = timeout_ms};
-    return dtu_core_make_call(core, now, &options, octets);
-}
-
 struct dt_reply_result dtu_core_reply(struct core *core, uint64_t now, const struct dt_token *token,
                                       const struct iovec *octets) {
     struct dt_reply_result it = dt_service_reply(core->service, now, token, octets->iov_base, octets->iov_len);

@@ -161,6 +161,14 @@ void dtu_driven_begin(dt_udp *u) {
     u->out.made_us = u->driven.drained_us;
 }
 
+/* Before an input of the driver's: what the program's own calls of the node made leaves with its own time, and not with
+ * that of the input, by which it would look younger than it is. */
+void dtu_driven_send_made(dt_udp *u) {
+    if (!u->core.driven || u->out.made_at != DT_NEVER) return;
+    dtu_driven_begin(u);
+    dtu_write_all(u);
+}
+
 /* The node is asked for all that leaves. */
 void dtu_driven_drained(dt_udp *u) {
     if (u->core.driven && u->watching.on) u->driven.drained_us = dtu_clock_us();

@@ -160,8 +160,9 @@ static bool next_of_service(dt_udp *u, uint8_t *room) {
         return true;
     }
     u->event.kind = it.kind == DT_EVENT_ANSWERED ? DT_UDP_EVENT_ANSWERED : DT_UDP_EVENT_UNSURE;
-    u->event.call = dtu_govern_number(u, it.call);
-    u->event.user = u->event.call == it.call ? it.user : dtu_calls_user(u, u->event.call);
+    u->event.call = it.call;
+    u->event.user = it.user;
+    dtu_govern_ended(u, &u->event);
     u->event.cause = it.cause;
     u->open_calls -= u->open_calls > 0;
     return true;
@@ -174,12 +175,6 @@ static bool next_too_big(dt_udp *u) {
     u->event.peer = peer->node;
     u->event.len = peer->too_big;
     peer->too_big = 0;
-    return true;
-}
-
-static bool next_of_governor(dt_udp *u) {
-    if (!dtu_govern_event(u)) return false;
-    if (u->event.kind == DT_UDP_EVENT_UNSURE) u->event.user = dtu_calls_user(u, u->event.call);
     return true;
 }
 
@@ -198,7 +193,7 @@ static bool next_room(dt_udp *u) {
  * DT_MAX_PAYLOAD octets. False: nothing happened. */
 bool dtu_events_next(dt_udp *u, uint8_t *room) {
     memset(&u->event, 0, sizeof u->event);
-    bool some = next_too_big(u) || next_of_governor(u) || next_room(u) || next_report(u) || dtu_objects_event(u) ||
+    bool some = next_too_big(u) || dtu_govern_event(u) || next_room(u) || next_report(u) || dtu_objects_event(u) ||
                 (u->core.service ? next_of_service(u, room) : next_message(u));
     if (some) dtu_count_event(u, u->event.kind, u->event.cause, u->event.call);
     return some;

@@ -300,13 +300,14 @@ bool dtu_govern_waits(dt_udp *u, struct peer *peer, const struct dt_flow *flow, 
     return !dtu_govern_admits(u, peer, octets);
 }
 
-struct dt_call_result dtu_govern_keep_call(dt_udp *u, struct peer *peer, const struct dt_flow *flow,
-                                           const struct iovec *octets, uint32_t timeout_ms) {
+struct dt_call_result dtu_govern_keep_call(dt_udp *u, struct peer *peer, const struct dt_udp_call_options *options,
+                                           const struct iovec *octets) {
     if (u->open_calls >= u->options.max_calls) return (struct dt_call_result){.status = DT_TOO_MANY_CALLS};
     /* (no life is so great that the library would give this number) */
     struct waiting it = {.is_call = true,
-                         .token = {.call = ~u->governing.numbers, .flow = *flow},
-                         .deadline = dtu_clock_ms() + timeout_ms};
+                         .token = {.call = ~u->governing.numbers, .flow = options->flow},
+                         .user = options->user,
+                         .deadline = dtu_clock_ms() + options->timeout_ms};
     if (!keep(u, peer, &it, octets)) return (struct dt_call_result){.status = DT_FULL};
     u->governing.numbers++;
     u->open_calls++;
@@ -327,15 +328,14 @@ static struct waiting **named_at(dt_udp *u, uint64_t call) {
     return it;
 }
 
-/* The number by which the program knows a call that ended. */
-uint64_t dtu_govern_number(dt_udp *u, uint64_t call) {
-    if (u->governing.named == NULL) return call;
-    struct waiting **place = named_at(u, call), *it = *place;
-    if (it == NULL) return call;
-    uint64_t number = it->token.call;
+/* Gives the event of the end of a call the number by which the program knows it, if it waited. */
+void dtu_govern_ended(dt_udp *u, struct dt_udp_event *event) {
+    if (u->governing.named == NULL) return;
+    struct waiting **place = named_at(u, event->call), *it = *place;
+    if (it == NULL) return;
+    event->call = it->token.call;
     *place = it->next;
     free(it);
-    return number;
 }
 
 static void end_unsure(dt_udp *u, struct waiting *it) {
@@ -352,6 +352,7 @@ bool dtu_govern_event(dt_udp *u) {
         if (it->next == NULL) u->governing.last_unsure = NULL;
         u->event.kind = DT_UDP_EVENT_UNSURE;
         u->event.call = it->token.call;
+        u->event.user = it->user;
         u->event.cause = DT_CAUSE_TIMEOUT;
         u->open_calls -= u->open_calls > 0;
         free(it);
@@ -372,8 +373,9 @@ static enum entry enter_call(dt_udp *u, struct waiting *it, uint64_t now) {
         end_unsure(u, it);
         return ENTERED;
     }
-    struct dt_call_result made = dtu_core_call(&u->core, now, &it->token.flow, &(struct iovec){it->octets, it->len},
-                                               (uint32_t)(it->deadline - now));
+    struct dt_udp_call_options options = {
+        .flow = it->token.flow, .timeout_ms = (uint32_t)(it->deadline - now), .user = it->user};
+    struct dt_call_result made = dtu_core_make_call(&u->core, now, &options, &(struct iovec){it->octets, it->len});
     if (made.status == DT_FULL) return FLOW_IS_FULL;
     if (made.status == DT_QUIET || made.status == DT_TOO_MANY_CALLS) return NOT_NOW;
     if (made.status != DT_OK) {

@@ -191,7 +191,6 @@ void dt_udp_close(dt_udp *u) {
     dtu_strangers_close(u);
     dtu_watch_close(u);
     dtu_govern_close(u);
-    dtu_calls_close(u);
     dtu_driven_close(u);
     dtu_peers_close(&u->peers);
     dtu_loop_close(u);

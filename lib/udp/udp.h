@@ -85,6 +85,7 @@ struct waiting {
     struct waiting *next;
     struct dt_token token; /* of a call: its flow, and its number as the program knows it */
     uint64_t call;         /* and as the library does */
+    uint64_t user;         /* what the program gave a call */
     uint64_t deadline;     /* of a reply: DT_NEVER */
     size_t len;
     bool is_call;
@@ -124,6 +125,8 @@ struct watch {
     dt_watch *rules;        /* behind this struct */
     uint64_t present, next; /* the names of its present opening, and of one that isn't proved; 0: none */
     uint64_t pinged_us;     /* when it was last asked */
+    uint64_t began_us[2];   /* when the first datagram of each of the two openings came, or the first after a silence */
+    uint64_t last_us[2];    /* and the last one */
     uint64_t under_way;     /* octets that were handed in and aren't settled */
     uint64_t on_wire;       /* the same with the headers of their datagrams: what the window counts */
     struct waiting_flows ready;    /* flows for which something waits for the window, each in its turn */
@@ -133,6 +136,8 @@ struct watch {
     uint16_t sent, heard, its_heard;
     uint16_t aged;          /* what it is told of its last datagram */
     uint8_t round, its_round;
+    uint8_t slow[2];        /* answers that were left out, since they were slow */
+    bool measured[2];       /* the interval of its clock has a width */
     uint8_t alarms;         /* bits 1 << enum dt_udp_alarm that were events */
     bool second;            /* which clocks of `rules` are those of the present opening */
 };
@@ -175,14 +180,6 @@ struct governing {
     bool wants_room;                             /* something was refused for want of room */
     bool object_waits;                           /* a chunk may not enter yet */
 };
-
-/* The user of a call that waited: the governor, and so the library, knows the call by its number. */
-struct user {
-    struct user *next; /* in its bucket */
-    uint64_t call, user;
-};
-
-enum { USERS = 1024 };
 
 struct peer {
     struct peer *next; /* in its bucket */
@@ -389,7 +386,6 @@ struct dt_udp {
     struct objects objects;
     struct watching watching;
     struct governing governing;
-    struct user **users;   /* USERS buckets by the number of the call; null: there was none yet */
     struct queue queue;
     struct reports reports;
     struct message *lent;  /* what the last event points to */
@@ -441,8 +437,6 @@ dt_status dtu_core_next_message(struct core *core, uint64_t now, const struct io
 dt_status dtu_core_next_event(struct core *core, uint8_t *room, size_t size, struct dt_event *out);
 struct dt_send_result dtu_core_send(struct core *core, uint64_t now, const struct dt_flow *flow,
                                     const struct iovec *octets);
-struct dt_call_result dtu_core_call(struct core *core, uint64_t now, const struct dt_flow *flow,
-                                    const struct iovec *octets, uint32_t timeout_ms);
 struct dt_call_result dtu_core_make_call(struct core *core, uint64_t now, const struct dt_udp_call_options *options,
                                          const struct iovec *octets);
 struct dt_reply_result dtu_core_reply(struct core *core, uint64_t now, const struct dt_token *token,
@@ -560,18 +554,14 @@ void dtu_govern_heard(dt_udp *u, struct watch *watch, const struct trailer *trai
 void dtu_govern_count(dt_udp *u, struct peer *peer);
 bool dtu_govern_admits(dt_udp *u, struct peer *peer, uint64_t octets);
 bool dtu_govern_waits(dt_udp *u, struct peer *peer, const struct dt_flow *flow, uint64_t octets);
-struct dt_call_result dtu_govern_keep_call(dt_udp *u, struct peer *peer, const struct dt_flow *flow,
-                                           const struct iovec *octets, uint32_t timeout_ms);
+struct dt_call_result dtu_govern_keep_call(dt_udp *u, struct peer *peer, const struct dt_udp_call_options *options,
+                                           const struct iovec *octets);
 struct dt_reply_result dtu_govern_keep_reply(dt_udp *u, struct peer *peer, const struct dt_token *token,
                                              const struct iovec *octets);
-uint64_t dtu_govern_number(dt_udp *u, uint64_t call);
+void dtu_govern_ended(dt_udp *u, struct dt_udp_event *event);
 bool dtu_govern_event(dt_udp *u);
 void dtu_govern_release(dt_udp *u);
 uint64_t dtu_govern_wake(const dt_udp *u, uint64_t now);
-
-/* --- calls.c */
-uint64_t dtu_calls_user(dt_udp *u, uint64_t call);
-void dtu_calls_close(dt_udp *u);
 
 /* --- reading.c */
 dt_status dtu_reading_open(dt_udp *u);
@@ -591,6 +581,7 @@ void dtu_write_held(dt_udp *u, const struct peer *peer);
 /* --- driven.c */
 void dtu_driven_close(dt_udp *u);
 void dtu_driven_begin(dt_udp *u);
+void dtu_driven_send_made(dt_udp *u);
 bool dtu_driven_note(dt_udp *u, uint64_t at);
 void dtu_driven_receive(dt_udp *u, struct peer *peer, struct arrival *arrival);
 void dtu_driven_take(dt_udp *u, struct peer *peer, const struct arrival *arrival);

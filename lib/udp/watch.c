@@ -15,6 +15,8 @@ enum {
     DRIFT = 101,          /* each clock is within 100 parts in a million of the true time */
     GRAIN_US = 3,         /* and is read in steps of one microsecond */
     PING_US = 2000,       /* a peer is asked no sooner again */
+    SILENCE_US = 24000000, /* after this what was heard of clocks is forgotten */
+    MOST_SLOW = 2,        /* answers that are left out at first, since they were slow */
     AGED_UNIT_US = 64,
     MOST_KEPT = 256,      /* datagrams that wait until their age is known */
     BARE = 4,             /* octets of a datagram that is no frame, before its trailer */
@@ -263,6 +265,31 @@ static void note_rounds(struct watch *it, const struct trailer *t) {
     it->its_round = t->round;
 }
 
+/* The clocks of an opening are heard for the first time. */
+static void begin_clocks(struct watch *it, bool second, uint64_t came_us) {
+    it->began_us[second] = it->last_us[second] = came_us;
+    it->measured[second] = false;
+    it->slow[second] = 0;
+}
+
+/* What is heard of the clocks of an opening by a datagram. The width of the first exchange is counted into each age for
+ * half a second, so an exchange that a busy end held up would make everything too old: its reading of our clock isn't
+ * heard, as if the datagram had been lost, and the peer is asked (again). A path that is so slow is heard then. */
+static struct dt_passage passage_of(const dt_udp *u, struct watch *it, const struct arrival *a, bool second) {
+    const struct trailer *t = &a->trailer;
+    struct dt_passage passage = {.made = t->made, .sure = sure_of(u, t), .came = a->came_us};
+    if (a->came_us > it->last_us[second] + SILENCE_US) begin_clocks(it, second, a->came_us);
+    it->last_us[second] = a->came_us;
+    if (it->measured[second] || passage.sure == 0) return passage;
+    uint64_t life_us = 1000 * (uint64_t)u->options.params->mpl;
+    bool slow = passage.sure <= passage.came && passage.came - passage.sure > life_us / 3;
+    if (slow && it->slow[second] < MOST_SLOW && a->came_us < it->began_us[second] + 4 * life_us) {
+        it->slow[second] += t->kind == TRAILER_PONG;
+        passage.sure = 0;
+    } else it->measured[second] = true;
+    return passage;
+}
+
 /* Hears what a datagram says of clocks and openings. `*second` is where the clocks of its opening are. */
 static enum watched hear(dt_udp *u, struct watch *it, const struct arrival *a, bool is_frame, bool *second) {
     const struct trailer *t = &a->trailer;
@@ -275,9 +302,10 @@ static enum watched hear(dt_udp *u, struct watch *it, const struct arrival *a, b
     *second = known ? it->second : !it->second;
     if (!known && t->opening != it->next) {
         (void)dt_watch_begin(it->rules, *second, a->came_us);
+        begin_clocks(it, *second, a->came_us);
         it->next = t->opening;
     }
-    struct dt_passage passage = {.made = t->made, .sure = sure_of(u, t), .came = a->came_us};
+    struct dt_passage passage = passage_of(u, it, a, *second);
     if (dt_watch_hear(it->rules, *second, &passage) != DT_OK) {
         u->counts.clock_alarms++;
         if (known) alarm_of(u, it, a->hop, DT_UDP_ALARM_CLOCK);
@@ -303,6 +331,7 @@ static enum watched hear(dt_udp *u, struct watch *it, const struct arrival *a, b
 /* Computes how old a datagram of the present opening is. False: that isn't known. */
 static bool age(dt_udp *u, struct watch *it, struct arrival *a) {
     uint64_t sure = sure_of(u, &a->trailer);
+    if (!it->measured[it->second]) return false;
     if (sure == 0) sure = dt_watch_around(it->rules, it->second, a->trailer.made);
     if (sure == 0 || sure > a->came_us) return false;
     uint64_t aged = (a->came_us - sure) / AGED_UNIT_US;
@@ -395,5 +424,7 @@ void dtu_watch_bare(dt_udp *u, struct peer *peer, const struct arrival *a) {
         u->counts.pings_in++;
         send_bare(u, it, a, TRAILER_PONG, second);
     }
-    if (heard == WATCHED_PRESENT && u->watching.kept_count) release(u, peer, a->at_us);
+    if (heard != WATCHED_PRESENT || u->watching.kept_count == 0) return;
+    if (it->measured[it->second]) release(u, peer, a->at_us);
+    else if (a->trailer.kind == TRAILER_PONG) ping(u, it, a, second);
 }

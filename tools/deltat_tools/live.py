@@ -43,6 +43,7 @@ def add_words(it: argparse.ArgumentParser) -> None:
     it.add_argument("--state", metavar="DIR", type=pathlib.Path, help="the node's state folder, by which it knows how long it has to be silent at first "
                     "($XDG_STATE_HOME/deltat/NODE, or ~/.local/state/deltat/NODE)")
     it.add_argument("--again", action="store_true", help="be silent for the whole quiet time, whatever the state folder says")
+    it.add_argument("--counters", metavar="PATH", type=pathlib.Path, help="a file on tmpfs into which the node counts, as /run/deltat-1.counters: tools/counters.py reads it")
     it.add_argument("--record", metavar="PATH", help="keep what the node takes in: `deltat retrace` writes of PATH what is in PATH.log, the node's log")
 
 
@@ -74,7 +75,8 @@ class Live:
         try:
             given = asked.own.node, self.params, links, {asked.peer.node: 1}
             node = self.deltat.Recorded(asked.record, *given, state=self.state) if asked.record else self.deltat.Node(*given, state=self.state)
-            self.udp = self.deltat.Udp(node, (asked.own.host, asked.own.port), {asked.peer.node: (asked.peer.host, asked.peer.port)}, watch=False)
+            where = (asked.own.host, asked.own.port), {asked.peer.node: (asked.peer.host, asked.peer.port)}
+            self.udp = self.deltat.Udp(node, *where, watch=False, counters=asked.counters)
         except BaseException:
             self.state.close()
             raise

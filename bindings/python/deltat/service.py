@@ -507,18 +507,20 @@ class Calls:
         return end.answer
 
     def requests(self, seconds: float | None = None) -> Iterator[Request]:
-        """Returns the requests that arrive, until none did for this many seconds (None: until the socket is closed).
-        Between two of them the node waits for the program: do work that takes long in `with udp.background()`."""
+        """Returns the requests that arrive, until none did for this many seconds (None: until the socket is closed; 0: one
+        look). Between two of them the node waits for the program: do work that takes long in `with udp.background()`."""
         udp = self.udp
         while True:
             end = None if seconds is None else time.monotonic() + seconds
             if udp.is_closed:
                 udp._test()
                 return
+            looked = False
             while (request := self._desk.next_request(self._line)) is None:
                 left = None if end is None else end - time.monotonic()
-                if left is not None and left <= 0:
+                if left is not None and left <= 0 and looked:
                     return
+                looked = True
                 try:
                     udp._turn(left)
                 except Stopped as why:

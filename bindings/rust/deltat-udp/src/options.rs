@@ -37,6 +37,9 @@ pub struct Options<'a> {
     /// The folder that keeps starts and lives; it is made if it isn't there. None: the program knows how the
     /// node starts, and `life`.
     pub state: Option<&'a Path>,
+    /// A file into which the driver counts, for tools/counters.py: on tmpfs, as below /run. None: it counts for
+    /// [`Handle::counts`](crate::Handle::counts) only.
+    pub counters: Option<&'a Path>,
     /// The life of this opening of a service without `state`, which no other one of the number has.
     pub life: u32,
     /// Of a service: calls that wait, or have an end that wasn't taken. Usually 1,000.
@@ -80,6 +83,7 @@ pub(crate) struct Texts {
     host: Option<CString>,
     port: CString,
     state: Option<CString>,
+    counters: Option<CString>,
     params: c::dt_params,
 }
 
@@ -98,6 +102,7 @@ impl Options<'_> {
             port: 0,
             start: None,
             state: None,
+            counters: None,
             life: 1,
             max_calls: 1000,
             max_requests: 1000,
@@ -122,6 +127,10 @@ impl Options<'_> {
             host: self.host.map(|it| text(it.as_bytes(), "host")).transpose()?,
             port: text(self.port.to_string().as_bytes(), "port")?,
             state: self.state.map(|it| text(it.as_os_str().as_bytes(), "state")).transpose()?,
+            counters: self
+                .counters
+                .map(|it| text(it.as_os_str().as_bytes(), "counters"))
+                .transpose()?,
             params: self.params.into(),
         })
     }
@@ -141,6 +150,7 @@ impl Options<'_> {
             start_as: self.start_as(),
             life: self.life,
             state: pointer(&texts.state),
+            counters: pointer(&texts.counters),
             max_calls: self.max_calls,
             max_requests: self.max_requests,
             max_requests_per_flow: self.max_requests_per_flow,

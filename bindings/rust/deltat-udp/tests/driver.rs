@@ -170,6 +170,36 @@ fn a_node_without_the_watch_is_an_alarm_and_counted() {
 }
 
 #[test]
+fn counters_are_in_a_file_too() {
+    let path = PathBuf::from(format!("/dev/shm/deltat-udp-{}.counters", process::id()));
+    let _ = fs::remove_file(&path);
+    let with_file = Options { counters: Some(&path), ..options(1) };
+    let (mut client, mut service) = services(&with_file);
+    client.call(FLOW, b"hello", LONG).unwrap();
+    client.flush();
+    loop {
+        let event = service.next_event_within(Duration::from_millis(1)).unwrap();
+        if let Some(Event::Request { token, .. }) = event {
+            service.reply(token, b"answer").unwrap();
+        }
+        let event = client.next_event_within(Duration::from_millis(1)).unwrap();
+        if let Some(Event::Answered { octets, .. }) = event {
+            assert_eq!(octets, b"answer");
+            break;
+        }
+    }
+    let why = Service::open(&with_file).unwrap_err();
+    assert!(matches!(&why, Error::InUse { .. }), "{why:?}");
+    drop(client);
+    let written = fs::read(&path).unwrap();
+    fs::remove_file(&path).unwrap();
+    assert!(written.starts_with(b"deltat") && written.iter().any(|it| *it != 0), "{written:?}");
+    let nowhere = Options { counters: Some("/nowhere/a".as_ref()), ..options(1) };
+    let why = Service::open(&nowhere).unwrap_err();
+    assert!(matches!(&why, Error::System { code: 2, .. }), "{why:?}");
+}
+
+#[test]
 fn each_wrong_option_is_named() {
     let text = |options: Options<'_>| match Node::open(&options).unwrap_err() {
         Error::Refused { text, param } => (text, param),
