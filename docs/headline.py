@@ -23,7 +23,7 @@ COMMANDS = {
     "`make`, beside those": ["dt_make/Schedules"],
     "networks of endpoints, beside those": ["dt_network/Octets", "dt_network/Beside", "dt_network/Duties"],
 }
-REST = "`run` itself: words, streams, statuses, and what each job owes"
+REST = "`run` itself: words, streams, statuses, and the results of each job"
 STATED = ["crates/dt_top/src/lib.rt", "crates/dt_top/src/laws.rt"]
 
 
