@@ -3,12 +3,13 @@
 
 It refuses, each with page and line:
 - a link that leads nowhere: a file that isn't there, or a heading that the page doesn't have;
-- a name in backticks that nothing has: a file, a crate, a clause of a function's table, a function,
-  a type, a definition;
+- a name in backticks that nothing has: a file, a crate, a function, a type, a definition;
+- a row of a table of laws whose law is gone, or has no such clause; and a law of docs/laws.py without a row in the
+  table of docs/guarantees.md;
 - a crate's row in the table of crates whose "stands on" differs from crates.txt, and a crate
   without a row;
 - a library on a crate's line in crates.txt of which the crate names nothing;
-- a clause of `run` that docs/guarantees.md doesn't name;
+- a clause of `run` that docs/headline.md doesn't name;
 - a word of a line that is written or read and that docs/formats.md doesn't name;
 - a count of the files that have a row for each written or read line, where the sources have other files;
 - a list of docs/headline.md that differs from the definitions that its sentences rest on;
@@ -17,11 +18,11 @@ It refuses, each with page and line:
   from it;
 - a public name of the library, in C, Python or Rust, that the table of words of docs/library.md doesn't have, or has
   twice; and a name of that table that nothing has;
-- a sentence of the header or of docs/library.md that speaks of a law and isn't in the table of docs/laws.py; one of that
-  table that isn't in its file; and one whose law is gone, or has no such clause;
+- a sentence of the header or of docs/library.md that speaks of a law and isn't in the table of docs/laws.py; one of
+  that table that isn't in its file; and one whose law is gone, or has no such clause;
 - a crate that the map of docs/rooms.py lacks or has twice, and a picture that differs from crates.txt;
 - a script that can't be run as the pages say, since it isn't executable;
-- a must-fail edit whose text doesn't stand once in its file: the `rt ci` of some kits counts it for nothing, and passes;
+- a must-fail edit whose text isn't once in its file: the `rt ci` of some kits counts it for nothing, and passes;
 - two edits of a crate, or a planted bug without a name;
 - what an edit turns off, where it doesn't say so, or does something else to the line;
 - an answer that says that it refuses a bug which isn't planted.
@@ -50,6 +51,7 @@ import interface  # noqa: E402
 TOP = Path(__file__).resolve().parent.parent
 PAGES = sorted([TOP / "README.md", TOP / "conformance" / "README.md", *(TOP / "docs").glob("*.md")])
 ARCHITECTURE = TOP / "docs" / "architecture.md"
+GUARANTEES = TOP / "docs" / "guarantees.md"
 
 # What pages name of the language, the toolchain and the system, and of no file here.
 FOREIGN = set(
@@ -274,43 +276,19 @@ def functions() -> tuple[Function, ...]:
     return tuple(found)
 
 
-@cache
-def declared() -> frozenset[str]:
-    """The types, traits and modules of the crates."""
-    words = re.compile(r"^\s*(?:pub(?:\([a-z]+\))? )?(?:struct|enum|trait|mod|type) (\w+)", re.MULTILINE)
-    return frozenset(name for path in sources("src") for name in words.findall(text_of(path)))
-
-
-def clauses_of(name: str) -> set[str] | None:
-    """The clauses of all functions of that name, or None where there is no such function."""
-    parts = name.removesuffix("()").split("::")
-    found: set[str] | None = None
-    for it in functions():
-        own = it.name.split("::")
-        same = own[-1] == parts[-1] and (len(parts) == 1 or parts[-2] in (*own[:-1], it.crate) or len(own) == 1)
-        if same:
-            found = (found or set()) | set(it.clauses)
-    return found
-
-
-def check_clauses(page: Path) -> Iterator[Complaint]:
-    """The rows of a table with the columns call and clause: the call has the clauses."""
-    inside, calls = False, []
+def check_laws_listed(page: Path) -> Iterator[Complaint]:
+    """The rows of a table whose first column is law: a public function has the contract."""
+    inside = False
     for number, line in outside_code(page):
         cells = [it.strip() for it in line.strip().strip("|").split("|")] if line.startswith("|") else []
         if not cells:
             inside = False
-        elif cells[:2] == ["call", "clause"]:
-            inside, calls = True, []
+        elif cells[:2] == ["law", "says"]:
+            inside = True
         elif inside and not set(line) <= set("|- "):
-            calls = re.findall(r"`([\w:]+)`", cells[0]) or calls
-            known = [clauses_of(it) for it in calls]
-            for it, has in zip(calls, known):
-                if has is None and ("::" in it or it not in declared()):
-                    yield Complaint(page, number, f"no such function: {it}")
-            for clause in re.findall(r"`([a-z]\w*)`", cells[1]) if len(cells) > 1 else []:
-                if any(has is not None for has in known) and not any(clause in (has or ()) for has in known):
-                    yield Complaint(page, number, f"{' and '.join(calls)} has no clause {clause}")
+            for name in re.findall(r"`([\w:.]+)`", cells[0]):
+                if not is_law(name):
+                    yield Complaint(page, number, f"no such law: {name}")
 
 
 def sentences_of_run() -> Iterator[str]:
@@ -318,14 +296,15 @@ def sentences_of_run() -> Iterator[str]:
     for it in functions():
         if (it.crate, it.name) == ("dt_top", "run"):
             yield from it.clauses
-    for record in re.split(r"^pub record ", text_of(TOP / "crates/dt_top/specs/Answering.antt"), flags=re.MULTILINE)[1:]:
+    text = text_of(TOP / "crates/dt_top/specs/Answering.antt")
+    for record in re.split(r"^pub record ", text, flags=re.MULTILINE)[1:]:
         # the first is the sentence `ends`, the other one has all of them
         if not record.startswith(("IsEnded ", "Answers ")):
             yield from re.findall(r"^  pub (\w+) :", record, re.MULTILINE)
 
 
 def check_run() -> Iterator[Complaint]:
-    page = TOP / "docs" / "guarantees.md"
+    page = headline.PAGE
     named = set(re.findall(r"`(\w+)`", text_of(page)))
     for clause in sentences_of_run():
         if clause not in named:
@@ -439,9 +418,9 @@ def check_formats() -> Iterator[Complaint]:
 
 HEAD = """# Clause by clause
 
-What other crates can call, crate by crate, and the clauses of each contract by their names. What a clause says word
-for word stands in the contract, in the file of its module below `crates/CRATE/src/`, above the body. A `-` is a clause without a name. A
-condition is what the caller owes, and is proved at each call. `docs/check.py clauses` makes this page from the sources.
+What other crates can call, crate by crate, and the clauses of each contract by their names. The contract has a clause
+word for word: in the file of its module below `crates/CRATE/src/`, above the body. A `-` is a clause without a name.
+A condition is the caller's duty, and is proved at each call. `docs/check.py clauses` makes this page from the sources.
 """
 
 
@@ -455,7 +434,8 @@ def page_of_clauses() -> str:
     for crate in crates():
         rows = [it for it in functions() if it.crate == crate and it.is_public and (it.clauses or it.says)]
         if rows:
-            parts.append(f"\n## {crate}\n\n| call | module | conditions | clauses | what it is |\n|---|---|---|---|---|\n")
+            columns = "| call | module | conditions | clauses | what it is |"
+            parts.append(f"\n## {crate}\n\n{columns}\n|---|---|---|---|---|\n")
         for it in rows:
             said = it.says.replace("|", "\\|")
             parts.append(f"| `{it.name}` | {it.module} | {cell(it.requires)} | {cell(it.ensures)} | {said} |\n")
@@ -524,7 +504,8 @@ def check_costs() -> Iterator[Complaint]:
     lines = text_of(ARCHITECTURE).splitlines()
     for line in lines_of_costs():
         if line not in lines:
-            yield Complaint(ARCHITECTURE, 1, "the table of what a new variant costs differs from the sources: docs/check.py write")
+            what = "the table of what a new variant costs differs from the sources: docs/check.py write"
+            yield Complaint(ARCHITECTURE, 1, what)
 
 
 def write_costs() -> None:
@@ -558,7 +539,8 @@ def bugs(crate: str) -> frozenset[str]:
 
 
 def check_turned_off(edit: Path) -> Iterator[Complaint]:
-    """What stands above an edit's first bug says what it is, and only puts `OFF` before lines that declare or bring in a module."""
+    """The part above an edit's first bug says what it is, and only puts `OFF` before lines that declare or bring in a
+    module."""
     head, old = [], ""
     for line in edit.read_text().splitlines():
         if line.startswith(BUG):
@@ -577,7 +559,7 @@ def check_turned_off(edit: Path) -> Iterator[Complaint]:
 
 
 def check_edits() -> Iterator[Complaint]:
-    """The bugs of a crate stand in one file, each below its name, and each pair applies to what the earlier ones made."""
+    """A crate's bugs are in one file, each below its name, and each pair applies to what the earlier ones made."""
     for edit in sorted((TOP / "crates").glob("*/must-fail/*.edit")):
         if edit.name != PLANTED.name:
             yield Complaint(edit, 1, f"a crate's bugs stand in {PLANTED}")
@@ -603,7 +585,8 @@ def check_edits() -> Iterator[Complaint]:
                 case "old":
                     old, olds = words, olds + 1
                     if path not in made or (count := made[path].count(old)) != 1:
-                        yield Complaint(edit, number, f"the text stands {count if path in made else 0} times in {path.name}")
+                        times = count if path in made else 0
+                        yield Complaint(edit, number, f"the text is {times} times in {path.name}")
                         break
                 case "new":
                     made[path] = made[path].replace(old, words)
@@ -722,6 +705,10 @@ def check_laws() -> Iterator[Complaint]:
         for law in claim.laws:
             if not is_law(law):
                 yield Complaint(claim.page, 1, f"no such law: {law}, by which it says: {claim.says[:80]}")
+    listed = set(re.findall(r"^\| `([\w:.]+)` \|", text_of(GUARANTEES), re.MULTILINE))
+    for law in sorted({law.partition(".")[0] for claim in laws.CLAIMS for law in claim.laws}):
+        if law not in {it.partition(".")[0] for it in listed}:
+            yield Complaint(GUARANTEES, 1, f"the table of laws hasn't {law}, which docs/laws.py names")
 
 
 def check_map() -> Iterator[Complaint]:
@@ -733,7 +720,7 @@ def complaints() -> Iterator[Complaint]:
     for page in PAGES:
         yield from check_links(page)
         yield from check_names(page)
-        yield from check_clauses(page)
+        yield from check_laws_listed(page)
     yield from check_run()
     yield from check_crates()
     yield from check_libraries()

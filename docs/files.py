@@ -12,11 +12,15 @@ from typing import Iterator
 
 TOP = Path(__file__).resolve().parent.parent
 LISTED = ("Answers", "Proof", "Invariants", "Goals")
-ITEM = re.compile(r"((?: *///.*\n)+)((?: *#\[.*\n)*) *(?:pub(?:\([a-z]+\))? )?(?:(?:const|struct|enum|trait|type|fn|impl|macro_rules!|proof) ?)+(?:<[^>]*> )?([A-Za-z_]\w*)")
+KINDS = r"(?:const|struct|enum|trait|type|fn|impl|macro_rules!|proof)"
+ITEM = re.compile(
+    r"((?: *///.*\n)+)((?: *#\[.*\n)*) *(?:pub(?:\([a-z]+\))? )?"
+    rf"(?:{KINDS} ?)+(?:<[^>]*> )?([A-Za-z_]\w*)"
+)
 
 
 def files_of(crate: Path) -> Iterator[Path]:
-    """The files of a crate by which one finds one's way: code, definitions, and lemmas that more than one goal cites."""
+    """The files that a reader of a crate begins with: code, definitions, and lemmas that more than one goal cites."""
     for kind, ends in (("src", ".rt"), ("specs", ".antt"), ("proofs", ".antt")):
         for path in sorted((crate / kind).rglob(f"*{ends}")):
             if path.stem not in (*LISTED, "Lib") and "declared" not in path.parts:

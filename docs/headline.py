@@ -1,10 +1,11 @@
 #!/usr/bin/env python3
-"""The lists of definitions in headline.md: those that the sentences of `run` and the laws beside it rest
-on, a list a command, lowest first, with their lines. Without a word it compares the page with the sources
-and ends with 1 where they differ; with `write` it writes the lists."""
+"""The lists of definitions in headline.md: those that the sentences of `run` and the laws beside it use, a list a
+command, lowest first, in rows of files of one crate, with their lines. Without a word it compares the page with the
+sources and ends with 1 if they differ; with `write` it writes the lists."""
 
 import re
 import sys
+from itertools import groupby
 from pathlib import Path
 
 TOP = Path(__file__).resolve().parent.parent
@@ -22,14 +23,15 @@ COMMANDS = {
     "`make`, beside those": ["dt_make/Schedules"],
     "networks of endpoints, beside those": ["dt_network/Octets", "dt_network/Beside", "dt_network/Duties"],
 }
-REST = "`run` itself: the words, the streams, the statuses, and what each job owes"
+REST = "`run` itself: words, streams, statuses, and the results of each job"
 STATED = ["crates/dt_top/src/lib.rt", "crates/dt_top/src/laws.rt"]
 
 
 def brought_in(path: str) -> list[str]:
     """The specs that a file brings in by its `use` lines."""
     text = (TOP / path).read_text()
-    specs = [f"crates/{crate}/specs/{module}.antt" for crate, module in re.findall(r"use Rattle\.(dt_\w+)\.specs\.(\w+)", text)]
+    used = re.findall(r"use Rattle\.(dt_\w+)\.specs\.(\w+)", text)
+    specs = [f"crates/{crate}/specs/{module}.antt" for crate, module in used]
     return [spec for spec in specs if (TOP / spec).exists()]
 
 
@@ -48,9 +50,13 @@ def lines(path: str) -> int:
 
 
 def table(title: str, paths: list[str]) -> str:
-    rows = [f"| {path} | {lines(path)} |\n" for path in paths]
-    total = f"| all {len(paths)} | {sum(map(lines, paths))} |\n"
-    return f"### {title}\n\n| file | lines |\n|---|---|\n{''.join(rows)}{total}"
+    """A list: a row for each run of files of one crate, with the lines of each file."""
+    rows = []
+    for crate, group in groupby(paths, key=lambda path: path.split("/")[1]):
+        rows.append(f"| {crate} | {', '.join(f'{Path(path).stem} {lines(path)}' for path in group)} |\n")
+    total = sum(map(lines, paths))
+    head = f"### {title}\n\n{len(paths)} files, {total} lines\n\n| crate | files with their lines |\n|---|---|\n"
+    return head + "".join(rows)
 
 
 def tables() -> str:

@@ -72,7 +72,7 @@ proved() {
     fi
     printf 'The gate of that commit was run from nothing, by\n%s\n\nIts last line was:\n\n    %s\n\n' "$(told toolchain)" "$(tail -n 1 "$gate")"
     printf 'It counts the crates that were proved and tested, and the edits that the prover refused.\n'
-    printf 'What is proved is told clause by clause in docs/guarantees.md.\n\n'
+    printf 'docs/headline.md says what is proved, docs/guarantees.md what is not.\n\n'
     printf 'The gate proves sources. That the program was linked from these says who made the\npackage, and nothing in it: ./build links it.\n'
 }
 
