@@ -11,8 +11,8 @@ its variant minbase has, and one that has python3, man, pkg-config, compilers of
 Each is unpacked anew.
 
 - In the first, which has no toolchain, no compiler and no Python, the packages that need no Python are installed, every
-  block of README and of the tutorial is run in a copy of the pages, a clone's `./deltat` takes the installed program, and
-  two nodes start by their state folders. Then they are purged, and nothing is left.
+  block of README and of the tutorial is run in a copy of the pages, a clone's `./deltat` takes the installed program,
+  and two nodes start by their state folders. Then the packages are purged, and nothing is left.
 - In the second all are installed, and the blocks of the other pages for users are run; a program in C is compiled by
   pkg-config, and a client in Python asks it; the programs in C and C++ of the library's page are compiled by pkg-config
   and by CMake, the one in Rust by cargo, without a network, with the crates' path, and pip installs the tarball's wheel
@@ -20,7 +20,8 @@ Each is unpacked anew.
   as the first process of namespaces and of a cgroup of its own: the unit's node starts as `first`, is killed, and is
   started as `again`; a script that is refused isn't started once more; and when the package is removed, the node is
   stopped, and its state folder is kept.
-- Where piuparts is installed, it installs, removes and purges each package in the first tree, with the mirror's packages.
+- Where piuparts is installed, it installs, removes and purges each package in the first tree, with the mirror's
+  packages.
 
 Neither has a network but for its own loopback, except piuparts'. Skipped where there is no root, no debootstrap, no
 archive, or no tree after MAKING seconds, as without a network.
@@ -78,7 +79,9 @@ kill $!
 # page; `block` gives a page's first block of a language
 BLOCK = r"""block() { sed -n "/^\`\`\`$1\$/,/^\`\`\`\$/{/^\`\`\`\$/q;/^\`/d;p;}" "/usr/share/doc/deltat/$2"; }
 """
-WHEEL = BLOCK + """python3 -m venv /root/environment
+WHEEL = (
+    BLOCK
+    + """python3 -m venv /root/environment
 /root/environment/bin/pip install --no-index --quiet /root/deltat-*.whl
 cd /
 /root/environment/bin/python -c 'import deltat; print(deltat.__file__.startswith("/root/environment/"))'
@@ -98,6 +101,7 @@ sleep 3
 python /usr/share/doc/deltat/examples/echo.py ask hello world
 kill $!
 """
+)
 # the two programs of docs/library.md, by pkg-config and by CMake
 HELLO = """cd /root/copy/examples
 cc -std=c11 hello.c $(pkg-config --cflags --libs deltat) -o /root/hello && /root/hello
@@ -119,7 +123,9 @@ cmake -S /root/project -B /root/project/made >/dev/null && cmake --build /root/p
 """
 # the service of the same page in Rust, by the path of its crates, with the oldest Rust that the page names; behind its
 # silence the client in Python asks it
-RUST = BLOCK + r"""rustc --version | grep -q '^rustc 1\.63\.'
+RUST = (
+    BLOCK
+    + r"""rustc --version | grep -q '^rustc 1\.63\.'
 mkdir -p /root/crate/src
 cd /root/crate
 cat >Cargo.toml <<'END'
@@ -138,6 +144,7 @@ sleep 3
 python3 /root/copy/examples/echo.py ask-plain hello world
 kill $!
 """
+)
 # the tests of debian/tests, as autopkgtest runs them
 TESTS = """cd /root/tests
 export AUTOPKGTEST_TMP=/root/autopkgtest
@@ -152,7 +159,8 @@ ExecStart=/bin/bash -eux /root/units.sh
 StandardOutput=file:/root/units.out
 StandardError=file:/root/units.err
 """
-UNITS = r"""sed -e 's/^peer .*/peer 1 127.0.0.1:4002 46 0/' -e 's/^params .*/params 54 40 1 8 16 1442 65536 65536 65536 2147483648/' \
+UNITS = r"""sed -e 's/^peer .*/peer 1 127.0.0.1:4002 46 0/' \
+    -e 's/^params .*/params 54 40 1 8 16 1442 65536 65536 65536 2147483648/' \
     -e 's/^at 1000 /at 20 /' /usr/share/doc/deltat/examples/node-1.script >/etc/deltat/pump.script
 echo nonsense >/etc/deltat/bad.script
 systemctl start deltat-node@pump
@@ -161,7 +169,10 @@ kill -9 "$(systemctl show deltat-node@pump -p MainPID --value)"
 sleep 4
 systemctl start deltat-node@bad || true
 sleep 2
-show() { systemctl show "deltat-node@$1" -p ActiveState -p NRestarts -p ExecMainStatus | sort | tr '\n' ' '; echo "$1"; }
+show() {
+    systemctl show "deltat-node@$1" -p ActiveState -p NRestarts -p ExecMainStatus | sort | tr '\n' ' '
+    echo "$1"
+}
 show pump
 show bad
 for log in /var/log/deltat/pump/*.log; do head -n 1 "$log"; done
@@ -172,17 +183,21 @@ ls /var/lib/deltat/pump
 echo done
 """
 # the first line of each start's log: the node sends 20 ms behind its start, or is silent for 203
-STARTED = r"ActiveState=active ExecMainStatus=0 NRestarts=1 pump\nActiveState=failed ExecMainStatus=2 NRestarts=0 bad\n" \
-    r"\d+ 1 took 1:10>2:20 5\n\d+ 1 refused 1:10>2:20 quiet 203\nme 1 again\nActiveState=(inactive|failed)\n" \
+STARTED = (
+    r"ActiveState=active ExecMainStatus=0 NRestarts=1 pump\nActiveState=failed ExecMainStatus=2 NRestarts=0 bad\n"
+    r"\d+ 1 took 1:10>2:20 5\n\d+ 1 refused 1:10>2:20 quiet 203\nme 1 again\nActiveState=(inactive|failed)\n"
     r"lock\nnode-1.script\nstate\ndone\n"
+)
 # a cgroup of its own, which is gone behind that; and in it systemd, whose end is that of all it started
 BOOT = r"""group={group}
 was=$(sed -n 's/^0:://p' /proc/self/cgroup)
 mkdir -p "$group" && mount -t cgroup2 none "$group" && mkdir "$group/deltat-$$" || exit 77
 echo $$ >"$group/deltat-$$/cgroup.procs" || exit 77
 unshare --cgroup --mount --pid --fork --kill-child --net --uts --ipc bash -c '
-mount --bind {root} {root} && mount -t proc proc {root}/proc && mount -t sysfs sysfs {root}/sys && mount -t tmpfs tmpfs {root}/run &&
-mount -t cgroup2 none {root}/sys/fs/cgroup && container=chroot exec chroot {root} /lib/systemd/systemd --unit=units.service' </dev/null >/dev/null 2>&1 &
+mount --bind {root} {root} && mount -t proc proc {root}/proc && mount -t sysfs sysfs {root}/sys &&
+mount -t tmpfs tmpfs {root}/run &&
+mount -t cgroup2 none {root}/sys/fs/cgroup &&
+container=chroot exec chroot {root} /lib/systemd/systemd --unit=units.service' </dev/null >/dev/null 2>&1 &
 for _ in $(seq {seconds}); do sleep 1; ! grep -qs "^done" {root}/root/units.out || break; done
 kill -9 $! && wait
 echo $$ >"$group$was/cgroup.procs"
@@ -194,8 +209,20 @@ MANUALS = {"deltat": 1, "deltat-formats": 5, "libdeltat": 3}
 
 def run(*words: str, seconds: float = DOING) -> "subprocess.CompletedProcess[str]":
     """A command that is ended, with all that it started, after its seconds; the status is 124 then."""
-    with subprocess.Popen(words, stdin=subprocess.DEVNULL, stdout=subprocess.PIPE, stderr=subprocess.PIPE, text=True, start_new_session=True,
-                          env={"PATH": "/usr/sbin:/usr/bin:/sbin:/bin", "LC_ALL": "C.UTF-8", "DEBIAN_FRONTEND": "noninteractive", "HOME": "/root"}) as process:
+    with subprocess.Popen(
+        words,
+        stdin=subprocess.DEVNULL,
+        stdout=subprocess.PIPE,
+        stderr=subprocess.PIPE,
+        text=True,
+        start_new_session=True,
+        env={
+            "PATH": "/usr/sbin:/usr/bin:/sbin:/bin",
+            "LC_ALL": "C.UTF-8",
+            "DEBIAN_FRONTEND": "noninteractive",
+            "HOME": "/root",
+        },
+    ) as process:
         try:
             out, err = process.communicate(timeout=seconds)
         except subprocess.TimeoutExpired:
@@ -223,11 +250,17 @@ def trees(cache: Path) -> tuple[Path, Path]:
         if not plain.exists():
             packages = cache / "packages"
             packages.mkdir(exist_ok=True)
-            made(run(*apart("debootstrap", "--variant=minbase", f"--cache-dir={packages}", SUITE, str(root), MIRROR), seconds=MAKING))
+            made(
+                run(
+                    *apart("debootstrap", "--variant=minbase", f"--cache-dir={packages}", SUITE, str(root), MIRROR),
+                    seconds=MAKING,
+                )
+            )
             keep(root, plain)
         if not full.exists():
             unpack(plain, root)
-            adds = f"mount -t proc proc {root}/proc && exec chroot {root} sh -c 'apt-get -q update && apt-get -qy --no-install-recommends install {ADDED} && apt-get clean'"
+            gets = f"apt-get -q update && apt-get -qy --no-install-recommends install {ADDED} && apt-get clean"
+            adds = f"mount -t proc proc {root}/proc && exec chroot {root} sh -c '{gets}'"
             made(run(*apart("sh", "-c", adds), seconds=MAKING))
             keep(root, full)
     return plain, full
@@ -261,8 +294,19 @@ def pages(root: Path, *names: str) -> list[Case]:
     wanted = [word for it in names for word in ("--page", it)]
     ran = run(sys.executable, str(TOP / "tests" / "tutorial.py"), "--root", str(root), *wanted)
     lines = [it for it in ran.stdout.splitlines() if it.startswith(names)]
-    cases = [(f"every block of {it.partition(':')[0]}", "as shown" in it, it.partition(":")[2].strip()) for it in lines if re.match(r"\S+: \d+ blocks", it)]
-    return [*cases, ("all of these pages", ran.returncode == 0 and len(cases) == len(names), "" if not ran.returncode else ran.stdout[-600:] + ran.stderr[-300:])]
+    cases = [
+        (f"every block of {it.partition(':')[0]}", "as shown" in it, it.partition(":")[2].strip())
+        for it in lines
+        if re.match(r"\S+: \d+ blocks", it)
+    ]
+    return [
+        *cases,
+        (
+            "all of these pages",
+            ran.returncode == 0 and len(cases) == len(names),
+            "" if not ran.returncode else ran.stdout[-600:] + ran.stderr[-300:],
+        ),
+    ]
 
 
 def install(root: Path, packages: dict[str, Path], *names: str) -> Case:
@@ -289,12 +333,20 @@ def plain_cases(root: Path, packages: dict[str, Path], _wheel: Path) -> list[Cas
     folders = "state-1:\nlock\nnode-1.script\nstate\n\nstate-2:\nlock\nnode-2.script\nstate\n"
     cases.append(("two nodes by their state folders", (ran.returncode, ran.stdout) == (0, folders), ran.stderr[-300:]))
     ran = within(root, REMOVED.format(names=" ".join(names)))
-    return [*cases, ("removed, and nothing is left", (ran.returncode, ran.stdout) == (0, ""), ran.stdout + ran.stderr[-300:])]
+    return [
+        *cases,
+        ("removed, and nothing is left", (ran.returncode, ran.stdout) == (0, ""), ran.stdout + ran.stderr[-300:]),
+    ]
 
 
 def manual(root: Path, name: str, section: int) -> Case:
     ran = within(root, f"MANPAGER=cat MANWIDTH=80 man --warnings {section} {name}")
-    right = ran.returncode == 0 and not ran.stderr and ran.stdout.count("\n") > 50 and f"{name.upper()}({section})" in ran.stdout
+    right = (
+        ran.returncode == 0
+        and not ran.stderr
+        and ran.stdout.count("\n") > 50
+        and f"{name.upper()}({section})" in ran.stdout
+    )
     return f"man {section} {name}", right, ran.stderr[-300:] or f"{ran.stdout.count(chr(10))} lines"
 
 
@@ -306,12 +358,24 @@ def unit(root: Path) -> Case:
     (root / "etc/systemd/system/units.service").write_text(UNIT)
     (root / "root/units.sh").write_text(UNITS)
     with tempfile.TemporaryDirectory() as group:
-        ran = run("unshare", "--mount", "--propagation", "private", "bash", "-c", BOOT.format(group=group, root=root, seconds=60))
+        ran = run(
+            "unshare",
+            "--mount",
+            "--propagation",
+            "private",
+            "bash",
+            "-c",
+            BOOT.format(group=group, root=root, seconds=60),
+        )
     if ran.returncode == 77:
         return name, True, "not tried: there are no cgroups to make"
     out, err = (root / "root/units.out", root / "root/units.err")
     said = out.read_text() if out.exists() else ""
-    return name, bool(re.fullmatch(STARTED, said)), "" if re.fullmatch(STARTED, said) else f"{said}{err.read_text()[-300:] if err.exists() else ran.stderr[-300:]}"
+    return (
+        name,
+        bool(re.fullmatch(STARTED, said)),
+        "" if re.fullmatch(STARTED, said) else f"{said}{err.read_text()[-300:] if err.exists() else ran.stderr[-300:]}",
+    )
 
 
 def library_cases(root: Path, wheel: Path) -> list[Case]:
@@ -342,15 +406,21 @@ def full_cases(root: Path, packages: dict[str, Path], wheel: Path) -> list[Case]
     cases = [install(root, packages, *sorted(packages)), *pages(root, *users)]
     cases += [manual(root, it, section) for it, section in MANUALS.items()]
     helps = within(root, HELPS)
-    cases.append(("each tool tells its help", (helps.returncode, helps.stdout) == (0, ""), helps.stdout + helps.stderr[-300:]))
+    cases.append(
+        ("each tool tells its help", (helps.returncode, helps.stdout) == (0, ""), helps.stdout + helps.stderr[-300:])
+    )
     return [*cases, *library_cases(root, wheel), unit(root)]
 
 
 def given_packages(room: Path, program: str, archive: str) -> str:
     """Makes the tarball and the packages in a folder; returns why there are none, or nothing."""
-    ran = run(str(TOP / "release" / "all.sh"), "--program", program, "--archive", archive, "--out", str(room), seconds=MAKING)
+    ran = run(
+        str(TOP / "release" / "all.sh"), "--program", program, "--archive", archive, "--out", str(room), seconds=MAKING
+    )
     if ran.returncode == 0:
-        ran = run(str(TOP / "release" / "build.sh"), "--tarball", ran.stdout.strip(), "--out", str(room), seconds=MAKING)
+        ran = run(
+            str(TOP / "release" / "build.sh"), "--tarball", ran.stdout.strip(), "--out", str(room), seconds=MAKING
+        )
     return "" if ran.returncode == 0 else ran.stderr or "nothing was said"
 
 
@@ -367,11 +437,24 @@ def piuparts(plain: Path, packages: dict[str, Path]) -> Case:
     name = "piuparts: installed, removed, purged"
     if not shutil.which("piuparts", path="/usr/sbin:/usr/bin"):
         return name, True, "not tried: it isn't installed"
-    words = ("--no-upgrade-test", "--skip-logrotatefiles-test", "--warn-on-debsums-errors", "--warn-on-usr-move", "-d", SUITE, "-m", MIRROR, "-b", str(plain))
+    words = (
+        "--no-upgrade-test",
+        "--skip-logrotatefiles-test",
+        "--warn-on-debsums-errors",
+        "--warn-on-usr-move",
+        "-d",
+        SUITE,
+        "-m",
+        MIRROR,
+        "-b",
+        str(plain),
+    )
     ran = run("piuparts", *words, *map(str, packages.values()), seconds=MAKING)
     last = (ran.stdout.strip() or ran.stderr.strip() or "nothing was said").splitlines()
     told = [it for it in last if "ERROR" in it or "FAIL" in it]
-    if ran.returncode and any("Temporary failure" in it or "Could not resolve" in it or "Failed to fetch" in it for it in last):
+    if ran.returncode and any(
+        "Temporary failure" in it or "Could not resolve" in it or "Failed to fetch" in it for it in last
+    ):
         return name, True, "not tried: there is no mirror"
     return name, ran.returncode == 0, last[-1] if ran.returncode == 0 else "\n".join([*told, *last[-15:]])
 
@@ -395,11 +478,19 @@ def inside(folder: Path, plain: Path, full: Path) -> int:
 
 
 def main() -> int:
-    reads = argparse.ArgumentParser(description="Installs the packages in a fresh Debian, and does there what the pages say.")
+    reads = argparse.ArgumentParser(
+        description="Installs the packages in a fresh Debian, and does there what the pages say."
+    )
     reads.add_argument("program", nargs="?", default=str(PROGRAM), help="the program that is packed")
     reads.add_argument("--archive", default=default_archive(), metavar="FILE", help="the archive of the library")
     reads.add_argument("--packages", type=Path, metavar="FOLDER", help="take the tarball and the packages there")
-    reads.add_argument("--cache", type=Path, default=TOP / "out" / "chroot", metavar="FOLDER", help="keep the trees of Debian there (out/chroot)")
+    reads.add_argument(
+        "--cache",
+        type=Path,
+        default=TOP / "out" / "chroot",
+        metavar="FOLDER",
+        help="keep the trees of Debian there (out/chroot)",
+    )
     given = reads.parse_args()
     cache = given.cache.resolve()
     if INSIDE in os.environ:
@@ -416,10 +507,22 @@ def main() -> int:
     plain, _ = trees(cache)
     with tempfile.TemporaryDirectory() as folder:
         packages = given.packages.resolve() if given.packages else Path(folder)
-        why = "" if given.packages else given_packages(packages, os.path.abspath(given.program), os.path.abspath(given.archive))
+        why = (
+            ""
+            if given.packages
+            else given_packages(packages, os.path.abspath(given.program), os.path.abspath(given.archive))
+        )
         if why:
             return tell([("the packages", False, why)])
-        words = [*ALONE, sys.executable, str(Path(__file__).resolve()), "--packages", str(packages), "--cache", str(cache)]
+        words = [
+            *ALONE,
+            sys.executable,
+            str(Path(__file__).resolve()),
+            "--packages",
+            str(packages),
+            "--cache",
+            str(cache),
+        ]
         status = subprocess.run(words, env={**os.environ, INSIDE: "yes"}, check=False).returncode
         files = {it.name.partition("_")[0]: it for it in sorted(packages.glob("*.deb"))}
         return max(status, tell([piuparts(plain, files)]))
