@@ -131,10 +131,10 @@ extern "C" {
 
 /* The version of the library, as DELTAT_VERSION in text. dt_version() is that of the library that
  * the program is linked to. */
-#define DELTAT_VERSION "0.1.1"
+#define DELTAT_VERSION "0.3.0"
 #define DELTAT_VERSION_MAJOR 0
-#define DELTAT_VERSION_MINOR 1
-#define DELTAT_VERSION_PATCH 1
+#define DELTAT_VERSION_MINOR 3
+#define DELTAT_VERSION_PATCH 0
 
 /* The version of this interface. It rises when a program must be changed or compiled anew. */
 #define DT_ABI_VERSION 2u

@@ -69,22 +69,29 @@ def cells(line: str) -> list[str]:
     return [it.strip() for it in re.split(r"(?<!\\)\|", line.strip()[1:-1])]
 
 
+def entry(tag: str, rest: list[str]) -> Iterator[str]:
+    """A tag with the lines that belong to it. One that is longer than a line is a paragraph of its own, since .TP takes
+    one line."""
+    if len(tag.encode()) > WIDTH:
+        yield from [".PP", *wrapped(tag), ".RS", *rest, ".RE"]
+    else:
+        yield from [".TP", tag, *rest]
+
+
 def table(lines: list[str]) -> Iterator[str]:
     head = cells(lines[0])
     for line in lines[2:]:
         row = cells(line)
         others = [(name, it) for name, it in zip(head[1:], row[1:]) if it]
-        yield ".TP"
-        yield f"\\fB{spelled(row[0])}\\fR" if "`" not in row[0] else spelled(row[0])
+        tag = f"\\fB{spelled(row[0])}\\fR" if "`" not in row[0] else spelled(row[0])
         if len(head) == 2:
-            yield from wrapped(spelled(row[1]))
+            yield from entry(tag, list(wrapped(spelled(row[1]))))
             continue
+        rest: list[str] = []
         for number, (name, it) in enumerate(others):
-            if number:
-                yield ".br"
-            yield from wrapped(f"\\fI{spelled(name)}:\\fR {spelled(it)}" if name else spelled(it))
-        if not others:
-            yield "\\&"
+            rest += [".br"] if number else []
+            rest += wrapped(f"\\fI{spelled(name)}:\\fR {spelled(it)}" if name else spelled(it))
+        yield from entry(tag, rest or ["\\&"])
     yield ".PP"
 
 

@@ -1,24 +1,30 @@
 #!/usr/bin/env python3
-"""The Debian package, installed in a fresh Debian without the toolchain, and used there as the pages say.
+"""The Debian packages, installed in a fresh Debian without the toolchain, and used there as the pages say.
 
-Usage: tests/chroot.py [PROGRAM] [--cache FOLDER]
+Usage: tests/chroot.py [PROGRAM] [--archive FILE] [--packages FOLDER] [--cache FOLDER]
+
+FILE is the archive of the library, as for tests/package.py; --packages takes the tarball and the packages that are in a
+folder (tests/package.py --keep), in place of making them.
 
 debootstrap makes two trees of Debian 12, which FOLDER (out/chroot) keeps as archives for the next time: one with what
 its variant minbase has, and one that has python3, man, pkg-config, compilers of C, C++ and Rust, CMake and systemd too.
 Each is unpacked anew.
 
-- In the first, which has no toolchain, no compiler and no Python, the package is installed, every block of README and
-  of the tutorial is run in a copy of its pages, a clone's `./deltat` takes the installed program, and two nodes start by
-  their state folders. Then it is removed, and nothing is left.
-- In the second, the blocks of the other pages for users are run, with the library where `make -C lib` has made it; a
-  program in C is compiled by pkg-config, and a client in Python asks it; the programs in C and C++ of the library's page
-  are compiled by pkg-config and by CMake, the one in Rust by cargo, without a network, with the crates' path, and pip
-  installs the wheel into an environment of its own; man shows each man page. Then systemd is started there, as the
-  first process of namespaces and of a cgroup of its own: the unit's node starts as `first`, is killed, and is started
-  as `again`; a script that is refused isn't started once more.
+- In the first, which has no toolchain, no compiler and no Python, the packages that need no Python are installed, every
+  block of README and of the tutorial is run in a copy of the pages, a clone's `./deltat` takes the installed program,
+  and two nodes start by their state folders. Then the packages are purged, and nothing is left.
+- In the second all are installed, and the blocks of the other pages for users are run; a program in C is compiled by
+  pkg-config, and a client in Python asks it; the programs in C and C++ of the library's page are compiled by pkg-config
+  and by CMake, the one in Rust by cargo, without a network, with the crates' path, and pip installs the tarball's wheel
+  into an environment of its own; man shows each man page; the tests of debian/tests run. Then systemd is started there,
+  as the first process of namespaces and of a cgroup of its own: the unit's node starts as `first`, is killed, and is
+  started as `again`; a script that is refused isn't started once more; and when the package is removed, the node is
+  stopped, and its state folder is kept.
+- Where piuparts is installed, it installs, removes and purges each package in the first tree, with the mirror's
+  packages.
 
-Neither has a network but for its own loopback. Skipped where there is no root, no debootstrap, or no tree after
-MAKING seconds, as without a network.
+Neither has a network but for its own loopback, except piuparts'. Skipped where there is no root, no debootstrap, no
+archive, or no tree after MAKING seconds, as without a network.
 
 In tests/all: PROGRAM, 2400 s."""
 import argparse
@@ -28,11 +34,12 @@ import re
 import shutil
 import subprocess
 import sys
+import tarfile
 import tempfile
 from pathlib import Path
 
 from lib import PROGRAM, TOP, skip, tell
-from package import ASKS, LIBRARY, Case, example
+from package import ASKS, OF_PYTHON, OWNED, Case, default_archive, example, lacking
 from tutorial import entering
 
 SUITE = "bookworm"
@@ -56,7 +63,7 @@ grep -q 'read 2:20>1:10 rbe 776f726c64' one
 wait
 ls state-1 state-2
 """
-REMOVED = """dpkg --purge deltat >/dev/null
+REMOVED = """dpkg --purge {names} >/dev/null
 find / -xdev -path /root -prune -o -path /proc -prune -o -name '*deltat*' -print
 """
 # the service of examples/ in C, compiled by the pkg-config file, and a client in Python that asks it
@@ -72,7 +79,9 @@ kill $!
 # page; `block` gives a page's first block of a language
 BLOCK = r"""block() { sed -n "/^\`\`\`$1\$/,/^\`\`\`\$/{/^\`\`\`\$/q;/^\`/d;p;}" "/usr/share/doc/deltat/$2"; }
 """
-WHEEL = BLOCK + """python3 -m venv /root/environment
+WHEEL = (
+    BLOCK
+    + """python3 -m venv /root/environment
 /root/environment/bin/pip install --no-index --quiet /root/deltat-*.whl
 cd /
 /root/environment/bin/python -c 'import deltat; print(deltat.__file__.startswith("/root/environment/"))'
@@ -92,6 +101,7 @@ sleep 3
 python /usr/share/doc/deltat/examples/echo.py ask hello world
 kill $!
 """
+)
 # the two programs of docs/library.md, by pkg-config and by CMake
 HELLO = """cd /root/copy/examples
 cc -std=c11 hello.c $(pkg-config --cflags --libs deltat) -o /root/hello && /root/hello
@@ -113,7 +123,9 @@ cmake -S /root/project -B /root/project/made >/dev/null && cmake --build /root/p
 """
 # the service of the same page in Rust, by the path of its crates, with the oldest Rust that the page names; behind its
 # silence the client in Python asks it
-RUST = BLOCK + r"""rustc --version | grep -q '^rustc 1\.63\.'
+RUST = (
+    BLOCK
+    + r"""rustc --version | grep -q '^rustc 1\.63\.'
 mkdir -p /root/crate/src
 cd /root/crate
 cat >Cargo.toml <<'END'
@@ -132,6 +144,14 @@ sleep 3
 python3 /root/copy/examples/echo.py ask-plain hello world
 kill $!
 """
+)
+# the tests of debian/tests, as autopkgtest runs them
+TESTS = """cd /root/tests
+export AUTOPKGTEST_TMP=/root/autopkgtest
+mkdir "$AUTOPKGTEST_TMP"
+for it in example python c tools; do ./$it; done
+"""
+HELPS = "for it in /usr/lib/deltat/*; do [ ! -f $it ] || [ ! -x $it ] || $it --help >/dev/null || echo $it; done"
 # what systemd runs: the unit of two nodes, of which one is killed and the other's script is refused
 UNIT = """[Service]
 Type=oneshot
@@ -139,7 +159,8 @@ ExecStart=/bin/bash -eux /root/units.sh
 StandardOutput=file:/root/units.out
 StandardError=file:/root/units.err
 """
-UNITS = r"""sed -e 's/^peer .*/peer 1 127.0.0.1:4002 46 0/' -e 's/^params .*/params 54 40 1 8 16 1442 65536 65536 65536 2147483648/' \
+UNITS = r"""sed -e 's/^peer .*/peer 1 127.0.0.1:4002 46 0/' \
+    -e 's/^params .*/params 54 40 1 8 16 1442 65536 65536 65536 2147483648/' \
     -e 's/^at 1000 /at 20 /' /usr/share/doc/deltat/examples/node-1.script >/etc/deltat/pump.script
 echo nonsense >/etc/deltat/bad.script
 systemctl start deltat-node@pump
@@ -148,24 +169,35 @@ kill -9 "$(systemctl show deltat-node@pump -p MainPID --value)"
 sleep 4
 systemctl start deltat-node@bad || true
 sleep 2
-show() { systemctl show "deltat-node@$1" -p ActiveState -p NRestarts -p ExecMainStatus | sort | tr '\n' ' '; echo "$1"; }
+show() {
+    systemctl show "deltat-node@$1" -p ActiveState -p NRestarts -p ExecMainStatus | sort | tr '\n' ' '
+    echo "$1"
+}
 show pump
 show bad
 for log in /var/log/deltat/pump/*.log; do head -n 1 "$log"; done
 grep '^me' /var/lib/deltat/pump/node-1.script
+dpkg --remove deltat >/dev/null
+systemctl show deltat-node@pump -p ActiveState
+ls /var/lib/deltat/pump
 echo done
 """
 # the first line of each start's log: the node sends 20 ms behind its start, or is silent for 203
-STARTED = r"ActiveState=active ExecMainStatus=0 NRestarts=1 pump\nActiveState=failed ExecMainStatus=2 NRestarts=0 bad\n" \
-    r"\d+ 1 took 1:10>2:20 5\n\d+ 1 refused 1:10>2:20 quiet 203\nme 1 again\ndone\n"
+STARTED = (
+    r"ActiveState=active ExecMainStatus=0 NRestarts=1 pump\nActiveState=failed ExecMainStatus=2 NRestarts=0 bad\n"
+    r"\d+ 1 took 1:10>2:20 5\n\d+ 1 refused 1:10>2:20 quiet 203\nme 1 again\nActiveState=(inactive|failed)\n"
+    r"lock\nnode-1.script\nstate\ndone\n"
+)
 # a cgroup of its own, which is gone behind that; and in it systemd, whose end is that of all it started
 BOOT = r"""group={group}
 was=$(sed -n 's/^0:://p' /proc/self/cgroup)
 mkdir -p "$group" && mount -t cgroup2 none "$group" && mkdir "$group/deltat-$$" || exit 77
 echo $$ >"$group/deltat-$$/cgroup.procs" || exit 77
 unshare --cgroup --mount --pid --fork --kill-child --net --uts --ipc bash -c '
-mount --bind {root} {root} && mount -t proc proc {root}/proc && mount -t sysfs sysfs {root}/sys && mount -t tmpfs tmpfs {root}/run &&
-mount -t cgroup2 none {root}/sys/fs/cgroup && container=chroot exec chroot {root} /lib/systemd/systemd --unit=units.service' </dev/null >/dev/null 2>&1 &
+mount --bind {root} {root} && mount -t proc proc {root}/proc && mount -t sysfs sysfs {root}/sys &&
+mount -t tmpfs tmpfs {root}/run &&
+mount -t cgroup2 none {root}/sys/fs/cgroup &&
+container=chroot exec chroot {root} /lib/systemd/systemd --unit=units.service' </dev/null >/dev/null 2>&1 &
 for _ in $(seq {seconds}); do sleep 1; ! grep -qs "^done" {root}/root/units.out || break; done
 kill -9 $! && wait
 echo $$ >"$group$was/cgroup.procs"
@@ -177,8 +209,20 @@ MANUALS = {"deltat": 1, "deltat-formats": 5, "libdeltat": 3}
 
 def run(*words: str, seconds: float = DOING) -> "subprocess.CompletedProcess[str]":
     """A command that is ended, with all that it started, after its seconds; the status is 124 then."""
-    with subprocess.Popen(words, stdin=subprocess.DEVNULL, stdout=subprocess.PIPE, stderr=subprocess.PIPE, text=True, start_new_session=True,
-                          env={"PATH": "/usr/sbin:/usr/bin:/sbin:/bin", "LC_ALL": "C.UTF-8", "DEBIAN_FRONTEND": "noninteractive", "HOME": "/root"}) as process:
+    with subprocess.Popen(
+        words,
+        stdin=subprocess.DEVNULL,
+        stdout=subprocess.PIPE,
+        stderr=subprocess.PIPE,
+        text=True,
+        start_new_session=True,
+        env={
+            "PATH": "/usr/sbin:/usr/bin:/sbin:/bin",
+            "LC_ALL": "C.UTF-8",
+            "DEBIAN_FRONTEND": "noninteractive",
+            "HOME": "/root",
+        },
+    ) as process:
         try:
             out, err = process.communicate(timeout=seconds)
         except subprocess.TimeoutExpired:
@@ -206,11 +250,17 @@ def trees(cache: Path) -> tuple[Path, Path]:
         if not plain.exists():
             packages = cache / "packages"
             packages.mkdir(exist_ok=True)
-            made(run(*apart("debootstrap", "--variant=minbase", f"--cache-dir={packages}", SUITE, str(root), MIRROR), seconds=MAKING))
+            made(
+                run(
+                    *apart("debootstrap", "--variant=minbase", f"--cache-dir={packages}", SUITE, str(root), MIRROR),
+                    seconds=MAKING,
+                )
+            )
             keep(root, plain)
         if not full.exists():
             unpack(plain, root)
-            adds = f"mount -t proc proc {root}/proc && exec chroot {root} sh -c 'apt-get -q update && apt-get -qy --no-install-recommends install {ADDED} && apt-get clean'"
+            gets = f"apt-get -q update && apt-get -qy --no-install-recommends install {ADDED} && apt-get clean"
+            adds = f"mount -t proc proc {root}/proc && exec chroot {root} sh -c '{gets}'"
             made(run(*apart("sh", "-c", adds), seconds=MAKING))
             keep(root, full)
     return plain, full
@@ -244,19 +294,35 @@ def pages(root: Path, *names: str) -> list[Case]:
     wanted = [word for it in names for word in ("--page", it)]
     ran = run(sys.executable, str(TOP / "tests" / "tutorial.py"), "--root", str(root), *wanted)
     lines = [it for it in ran.stdout.splitlines() if it.startswith(names)]
-    cases = [(f"every block of {it.partition(':')[0]}", "as shown" in it, it.partition(":")[2].strip()) for it in lines if re.match(r"\S+: \d+ blocks", it)]
-    return [*cases, ("all of these pages", ran.returncode == 0 and len(cases) == len(names), "" if not ran.returncode else ran.stdout[-600:] + ran.stderr[-300:])]
+    cases = [
+        (f"every block of {it.partition(':')[0]}", "as shown" in it, it.partition(":")[2].strip())
+        for it in lines
+        if re.match(r"\S+: \d+ blocks", it)
+    ]
+    return [
+        *cases,
+        (
+            "all of these pages",
+            ran.returncode == 0 and len(cases) == len(names),
+            "" if not ran.returncode else ran.stdout[-600:] + ran.stderr[-300:],
+        ),
+    ]
 
 
-def install(root: Path, package: str) -> Case:
-    shutil.copy2(package, root / "root" / "package.deb")
-    ran = within(root, "dpkg -i package.deb >/dev/null && dpkg --audit && dpkg --verify deltat")
+def install(root: Path, packages: dict[str, Path], *names: str) -> Case:
+    """Installs these packages, and has dpkg look at them."""
+    for it in names:
+        shutil.copy2(packages[it], root / "root")
+    files = " ".join(packages[it].name for it in names)
+    ran = within(root, f"dpkg -i {files} >/dev/null && dpkg --audit && dpkg --verify {' '.join(names)}")
     return "installed", (ran.returncode, ran.stdout + ran.stderr) == (0, ""), ran.stdout + ran.stderr[-300:]
 
 
-def plain_cases(root: Path, package: str) -> list[Case]:
+def plain_cases(root: Path, packages: dict[str, Path], _wheel: Path) -> list[Case]:
     ran = within(root, BARE)
-    cases = [("nothing but Debian is there", ran.returncode == 0, ran.stdout.strip()), install(root, package), *pages(root, "README.md", "docs/tutorial.md")]
+    names = sorted(packages.keys() - OF_PYTHON.keys())
+    cases = [("nothing but Debian is there", ran.returncode == 0, ran.stdout.strip()), install(root, packages, *names)]
+    cases += pages(root, "README.md", "docs/tutorial.md")
     _, path, log = example()
     clone = root / "root" / "clone"
     shutil.copytree(TOP, clone, ignore=shutil.ignore_patterns("out", ".git", "__pycache__", "target"))
@@ -266,13 +332,21 @@ def plain_cases(root: Path, package: str) -> list[Case]:
     ran = within(root, STATES)
     folders = "state-1:\nlock\nnode-1.script\nstate\n\nstate-2:\nlock\nnode-2.script\nstate\n"
     cases.append(("two nodes by their state folders", (ran.returncode, ran.stdout) == (0, folders), ran.stderr[-300:]))
-    ran = within(root, REMOVED)
-    return [*cases, ("removed, and nothing is left", (ran.returncode, ran.stdout) == (0, ""), ran.stdout + ran.stderr[-300:])]
+    ran = within(root, REMOVED.format(names=" ".join(names)))
+    return [
+        *cases,
+        ("removed, and nothing is left", (ran.returncode, ran.stdout) == (0, ""), ran.stdout + ran.stderr[-300:]),
+    ]
 
 
 def manual(root: Path, name: str, section: int) -> Case:
     ran = within(root, f"MANPAGER=cat MANWIDTH=80 man --warnings {section} {name}")
-    right = ran.returncode == 0 and not ran.stderr and ran.stdout.count("\n") > 50 and f"{name.upper()}({section})" in ran.stdout
+    right = (
+        ran.returncode == 0
+        and not ran.stderr
+        and ran.stdout.count("\n") > 50
+        and f"{name.upper()}({section})" in ran.stdout
+    )
     return f"man {section} {name}", right, ran.stderr[-300:] or f"{ran.stdout.count(chr(10))} lines"
 
 
@@ -284,25 +358,38 @@ def unit(root: Path) -> Case:
     (root / "etc/systemd/system/units.service").write_text(UNIT)
     (root / "root/units.sh").write_text(UNITS)
     with tempfile.TemporaryDirectory() as group:
-        ran = run("unshare", "--mount", "--propagation", "private", "bash", "-c", BOOT.format(group=group, root=root, seconds=60))
+        ran = run(
+            "unshare",
+            "--mount",
+            "--propagation",
+            "private",
+            "bash",
+            "-c",
+            BOOT.format(group=group, root=root, seconds=60),
+        )
     if ran.returncode == 77:
         return name, True, "not tried: there are no cgroups to make"
     out, err = (root / "root/units.out", root / "root/units.err")
     said = out.read_text() if out.exists() else ""
-    return name, bool(re.fullmatch(STARTED, said)), "" if re.fullmatch(STARTED, said) else f"{said}{err.read_text()[-300:] if err.exists() else ran.stderr[-300:]}"
+    return (
+        name,
+        bool(re.fullmatch(STARTED, said)),
+        "" if re.fullmatch(STARTED, said) else f"{said}{err.read_text()[-300:] if err.exists() else ran.stderr[-300:]}",
+    )
 
 
-def library_cases(root: Path) -> list[Case]:
-    if not LIBRARY.exists():
-        return [("the library", True, "it isn't made here")]
+def library_cases(root: Path, wheel: Path) -> list[Case]:
     (root / "root" / "asks.py").write_text(ASKS)
-    run("sh", str(TOP / "release" / "wheel.sh"), str(root / "root"))
+    shutil.copy2(wheel, root / "root")
+    tests = root / "root" / "tests"
+    shutil.copytree(TOP / "debian" / "tests", tests)
     parts = [
         ("the Python package, where it is installed", "python3 asks.py", "[b'hello']\n"),
         ("the wheel, by pip, and the programs in Python", WHEEL, "True\nhello\nb'olleh'\nolleh\ndlrow\n"),
         ("a C program by its pkg-config file, and a client in Python", COMPILED, "olleh\ndlrow\n"),
         ("the programs of the library's page, by pkg-config and by CMake", HELLO, "hello\n" * 4),
         ("the program in Rust of that page, by its crates' path", RUST, "olleh\ndlrow\n"),
+        ("the tests of debian/tests", TESTS, "audit yes\n[b'hello']\n"),
     ]
     return [wrote(root, *it) for it in parts]
 
@@ -314,48 +401,131 @@ def wrote(root: Path, name: str, text: str, wanted: str) -> Case:
     return name, is_right, "" if is_right else ran.stdout + ran.stderr[-300:]
 
 
-def full_cases(root: Path, package: str) -> list[Case]:
-    there = [it for it in MANUALS if it != "libdeltat" or LIBRARY.exists()]
+def full_cases(root: Path, packages: dict[str, Path], wheel: Path) -> list[Case]:
     users = ("README.md", "docs/parameters.md", "docs/operating.md", "docs/library.md", "docs/tools.md")
-    cases = [install(root, package), *pages(root, *users), *(manual(root, it, MANUALS[it]) for it in there)]
-    helps = within(root, "for it in /usr/lib/deltat/*; do [ ! -f $it ] || [ ! -x $it ] || $it --help >/dev/null || echo $it; done")
-    return [*cases, ("each tool tells its help", (helps.returncode, helps.stdout) == (0, ""), helps.stdout + helps.stderr[-300:]), *library_cases(root), unit(root)]
+    cases = [install(root, packages, *sorted(packages)), *pages(root, *users)]
+    cases += [manual(root, it, section) for it, section in MANUALS.items()]
+    helps = within(root, HELPS)
+    cases.append(
+        ("each tool tells its help", (helps.returncode, helps.stdout) == (0, ""), helps.stdout + helps.stderr[-300:])
+    )
+    return [*cases, *library_cases(root, wheel), unit(root)]
 
 
-def inside(program: str, plain: Path, full: Path) -> int:
+def given_packages(room: Path, program: str, archive: str) -> str:
+    """Makes the tarball and the packages in a folder; returns why there are none, or nothing."""
+    ran = run(
+        str(TOP / "release" / "all.sh"), "--program", program, "--archive", archive, "--out", str(room), seconds=MAKING
+    )
+    if ran.returncode == 0:
+        ran = run(
+            str(TOP / "release" / "build.sh"), "--tarball", ran.stdout.strip(), "--out", str(room), seconds=MAKING
+        )
+    return "" if ran.returncode == 0 else ran.stderr or "nothing was said"
+
+
+def wheel_of(folder: Path, room: Path) -> Path:
+    """The wheel of the tarball in a folder."""
+    with tarfile.open(next(folder.glob("deltat-*-linux_*.tar.gz"))) as it:
+        name = next(name for name in it.getnames() if name.endswith(".whl"))
+        it.extract(name, room)
+    return room / name
+
+
+def piuparts(plain: Path, packages: dict[str, Path]) -> Case:
+    """Whether piuparts finds nothing that is left or broken behind any of the packages."""
+    name = "piuparts: installed, removed, purged"
+    if not shutil.which("piuparts", path="/usr/sbin:/usr/bin"):
+        return name, True, "not tried: it isn't installed"
+    words = (
+        "--no-upgrade-test",
+        "--skip-logrotatefiles-test",
+        "--warn-on-debsums-errors",
+        "--warn-on-usr-move",
+        "-d",
+        SUITE,
+        "-m",
+        MIRROR,
+        "-b",
+        str(plain),
+    )
+    ran = run("piuparts", *words, *map(str, packages.values()), seconds=MAKING)
+    last = (ran.stdout.strip() or ran.stderr.strip() or "nothing was said").splitlines()
+    told = [it for it in last if "ERROR" in it or "FAIL" in it]
+    if ran.returncode and any(
+        "Temporary failure" in it or "Could not resolve" in it or "Failed to fetch" in it for it in last
+    ):
+        return name, True, "not tried: there is no mirror"
+    return name, ran.returncode == 0, last[-1] if ran.returncode == 0 else "\n".join([*told, *last[-15:]])
+
+
+def inside(folder: Path, plain: Path, full: Path) -> int:
     """All of it, in a network namespace that has its loopback alone."""
     subprocess.run(["ip", "link", "set", "lo", "up"], check=True)
-    with tempfile.TemporaryDirectory() as folder:
-        room = Path(folder)
-        ran = run(str(TOP / "release" / "build.sh"), "--program", program, "--out", str(room))
-        if ran.returncode:
-            return tell([("the package", False, ran.stderr)])
+    packages = {it.name.partition("_")[0]: it for it in sorted(folder.glob("*.deb"))}
+    if packages.keys() != OWNED.keys():
+        return tell([("the packages", False, f"{folder} has {' '.join(packages) or 'none'}")])
+    with tempfile.TemporaryDirectory() as name:
+        room = Path(name)
+        wheel = wheel_of(folder, room)
         cases: list[Case] = []
         for archive, does in ((plain, plain_cases), (full, full_cases)):
             root = room / archive.name.partition(".")[0]
             unpack(archive, root)
-            cases += [(f"{'with' if archive == full else 'without'} Python: {name}", holds, text) for name, holds, text in does(root, ran.stdout.strip())]
+            where = "with Python" if archive == full else "without Python"
+            cases += [(f"{where}: {name}", holds, text) for name, holds, text in does(root, packages, wheel)]
         return tell(cases)
 
 
 def main() -> int:
-    reads = argparse.ArgumentParser(description="Installs the package in a fresh Debian, and does there what the pages say.")
+    reads = argparse.ArgumentParser(
+        description="Installs the packages in a fresh Debian, and does there what the pages say."
+    )
     reads.add_argument("program", nargs="?", default=str(PROGRAM), help="the program that is packed")
-    reads.add_argument("--cache", type=Path, default=TOP / "out" / "chroot", metavar="FOLDER", help="keep the trees of Debian there (out/chroot)")
+    reads.add_argument("--archive", default=default_archive(), metavar="FILE", help="the archive of the library")
+    reads.add_argument("--packages", type=Path, metavar="FOLDER", help="take the tarball and the packages there")
+    reads.add_argument(
+        "--cache",
+        type=Path,
+        default=TOP / "out" / "chroot",
+        metavar="FOLDER",
+        help="keep the trees of Debian there (out/chroot)",
+    )
     given = reads.parse_args()
-    cache, program = given.cache.resolve(), os.path.abspath(given.program)
+    cache = given.cache.resolve()
+    if INSIDE in os.environ:
+        return inside(given.packages.resolve(), *archives(cache))
     if os.geteuid():
         skip("only root can change its root")
     for it in ("debootstrap", "dpkg-deb", "unshare", "ip"):
         if not shutil.which(it, path="/usr/sbin:/usr/bin:/sbin:/bin"):
             skip(f"there is no {it}")
-    if INSIDE in os.environ:
-        return inside(program, *archives(cache))
+    if not given.packages and (why := lacking(given.archive)):
+        skip(why)
     if run(*ALONE, "true").returncode:
         skip("this root may make no namespaces")
-    trees(cache)
-    words = [*ALONE, sys.executable, str(Path(__file__).resolve()), program, "--cache", str(cache)]
-    return subprocess.run(words, env={**os.environ, INSIDE: "yes"}, check=False).returncode
+    plain, _ = trees(cache)
+    with tempfile.TemporaryDirectory() as folder:
+        packages = given.packages.resolve() if given.packages else Path(folder)
+        why = (
+            ""
+            if given.packages
+            else given_packages(packages, os.path.abspath(given.program), os.path.abspath(given.archive))
+        )
+        if why:
+            return tell([("the packages", False, why)])
+        words = [
+            *ALONE,
+            sys.executable,
+            str(Path(__file__).resolve()),
+            "--packages",
+            str(packages),
+            "--cache",
+            str(cache),
+        ]
+        status = subprocess.run(words, env={**os.environ, INSIDE: "yes"}, check=False).returncode
+        files = {it.name.partition("_")[0]: it for it in sorted(packages.glob("*.deb"))}
+        return max(status, tell([piuparts(plain, files)]))
 
 
 if __name__ == "__main__":

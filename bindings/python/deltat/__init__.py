@@ -139,7 +139,7 @@ __version__ = _c.DELTAT_VERSION
 
 
 def version() -> str:
-    """Returns the version of the library that is loaded, as "0.1.1"."""
+    """Returns the version of the library that is loaded, as "0.3.0"."""
     text: bytes = _library.dt_version()
     return text.decode()
 

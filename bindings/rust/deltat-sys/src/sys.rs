@@ -5,10 +5,10 @@
 use core::marker::{PhantomData, PhantomPinned};
 use std::os::raw::c_char; // in core since Rust 1.64
 
-pub const DELTAT_VERSION: &str = "0.1.1";
+pub const DELTAT_VERSION: &str = "0.3.0";
 pub const DELTAT_VERSION_MAJOR: u32 = 0;
-pub const DELTAT_VERSION_MINOR: u32 = 1;
-pub const DELTAT_VERSION_PATCH: u32 = 1;
+pub const DELTAT_VERSION_MINOR: u32 = 3;
+pub const DELTAT_VERSION_PATCH: u32 = 0;
 pub const DT_ABI_VERSION: u32 = 2;
 /// octets; no datagram that leaves a node is longer
 pub const DT_MAX_DATAGRAM: usize = 8_222;

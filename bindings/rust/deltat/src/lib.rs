@@ -104,7 +104,7 @@ pub use types::{
 };
 pub use udp::{Peer, Udp};
 
-/// The version of libdeltat that the program is linked to, as "0.1.1".
+/// The version of libdeltat that the program is linked to, as "0.3.0".
 #[must_use]
 pub fn version() -> &'static str {
     // SAFETY: what dt_version returns is constant text, which ends with a 0.
