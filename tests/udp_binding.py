@@ -10,18 +10,15 @@ import argparse
 import asyncio
 import contextlib
 import dataclasses
-import logging
 import multiprocessing
 import os
 import pathlib
-import re
 import socket
 import subprocess
 import sys
 import tempfile
 import threading
 import time
-import zlib
 from collections.abc import Callable, Iterator
 from contextlib import contextmanager
 
@@ -441,141 +438,6 @@ def alarms() -> str:
     return ", ".join([*found, "CLOCK"])
 
 
-# --- the state folder, which lib/udp/state.c and deltat.State both keep: a node that no driver drives, or that keeps a
-# record, has one too
-
-SHORT = deltat.Params(mpl=30, r=40, a=5, rto=10, probe=20, seg=100, cap=4096, rcap=4096, window=4096)
-LONGER = dataclasses.replace(SHORT, mpl=31)
-Files = dict[str, bytes]
-# what two starts may differ by, in ms
-APART = 40
-
-
-def with_check(text: str) -> bytes:
-    return text.encode() + b"check %08x\n" % zlib.crc32(text.encode())
-
-
-def kept(**more: object) -> bytes:
-    it = {"node": 1, "params": SHORT, "life": 7, **more}
-    numbers = " ".join(map(str, dataclasses.astuple(it["params"])))
-    return with_check(f"deltat state 1\nnode {it['node']}\nparams {numbers}\nlife {it['life']}\n")
-
-
-def folders() -> Iterator[tuple[str, Files, deltat.Params]]:
-    """Folders as earlier lives left them, and the parameters of the next one."""
-    boot = pathlib.Path("/proc/sys/kernel/random/boot_id").read_text().strip()
-    ago, ahead, none = deltat.now() - 60, deltat.now() + 30, "00000000-0000-0000-0000-000000000000"
-
-    def last(until: int, boot: str = boot, clock: int = 0) -> bytes:
-        return with_check(f"deltat last 1\nboot {boot}\nclock {clock:+020d}\nuntil {until:020d}\n")
-
-    whole = {"lock": b"pid 1\n", "state": kept(), "last": last(ago)}
-    yield "new", {}, SHORT
-    yield "closed", whole, SHORT
-    yield "killed", {**whole, "last": last(ahead)}, SHORT
-    yield "before this start of the machine", {**whole, "last": last(ago, "1" * 8 + "-1111-1111-1111-" + "1" * 12)}, SHORT
-    yield "by another clock", {**whole, "last": last(ago, clock=-5)}, SHORT
-    yield "without a boot", {**whole, "last": last(ago, none)}, SHORT
-    for cut in (b"", whole["last"][:-1], whole["last"] + b"x", whole["last"].replace(b"u", b"v", 1)):
-        yield f"last of {len(cut)} octets", {**whole, "last": cut}, SHORT
-    for cut in (b"", whole["state"][:-1], whole["state"] + b"x", whole["state"].replace(b"life 7", b"life 8")):
-        yield f"state of {len(cut)} octets", {**whole, "state": cut}, SHORT
-    yield "without last", {"lock": b"", "state": kept()}, SHORT
-    yield "without state", {"lock": b"", "last": last(ago)}, SHORT
-    yield "a lock alone", {"lock": b""}, SHORT
-    yield "state.new alone", {"state.new": kept()}, SHORT
-    yield "a former node's stamp", {"node-1.stamp": b"5\n"}, SHORT
-    yield "another program's file", {"notes": b"5\n"}, SHORT
-    yield "other parameters", whole, LONGER
-    yield "longer parameters before", {**whole, "state": kept(params=LONGER)}, SHORT
-    yield "another node", {**whole, "state": kept(node=2)}, SHORT
-    yield "another node, damaged", {**whole, "state": kept(node=2)[:-1]}, SHORT
-    yield "the last life but one", {**whole, "state": kept(life=2**32 - 2)}, SHORT
-    yield "no more lives", {**whole, "state": kept(life=2**32 - 1)}, SHORT
-
-
-def files_of(folder: pathlib.Path) -> Files:
-    return {it.name: it.read_bytes() for it in folder.iterdir()}
-
-
-def without_moment(files: Files) -> tuple[Files, int | None]:
-    """The files, but for a life that was drawn and for the moment in `last`; and that moment. It has to be whole."""
-    found = dict(files)
-    life, until = (re.search(form, found.get(name, b"")) for name, form in (("state", rb"life (\d+)"), ("last", rb"until (\d{20})")))
-    if life and int(life[1]) > 1 << 31 and int(life[1]) < 2**32 - 2:
-        wants(found["state"] == with_check(found["state"][: life.end() + 1].decode()), f"{found['state']}")
-        found["state"] = found["state"][: life.start()]
-    if not until:
-        return found, None
-    wants(found["last"] == with_check(found["last"][: until.end() + 1].decode()), f"{found['last']}")
-    found["last"] = found["last"][: until.start()]
-    return found, int(until[1])
-
-
-def lives_of(kind: str, folder: pathlib.Path, params: deltat.Params, changed: bool) -> list[object]:
-    """What a life in a folder is, and what it leaves: opened; after an input; closed."""
-    try:
-        if kind == "C":
-            flags = 16 * changed
-            with driver.Udp(1, params, 30, HOST, state=folder, flags=flags) as udp:
-                found = [udp.life > 1 << 31 or udp.life, udp.silence * 1000, files_of(folder)]
-                time.sleep(udp.silence + 0.01)
-                udp.send(deltat.Flow(1, 10, 2, 20), b"noted")
-                found.append(files_of(folder))
-        else:
-            with deltat.State(folder, 1, params, changed=changed) as state:
-                state.opens_at(deltat.now())
-                silence = state.silence()
-                found = [state.life > 1 << 31 or state.life, silence, files_of(folder)]
-                time.sleep(silence / 1000 + 0.01)
-                state.note_packet(deltat.now())
-                found.append(files_of(folder))
-    except (deltat.StateError, deltat.InvalidArgument):
-        return ["refused", 0, files_of(folder)]
-    return [*found, files_of(folder)]
-
-
-def compared(name: str, files: Files, params: deltat.Params, changed: bool) -> float:
-    """Has a life of each kind begin in such a folder. What both answer and leave is the same, but for moments; returns
-    by how many ms these differ, from the start of each life on or in all."""
-    found, begun = [], []
-    for kind in ("C", "Python"):
-        with tempfile.TemporaryDirectory() as place:
-            folder = pathlib.Path(place) / "it"
-            folder.mkdir()
-            for file, octets in files.items():
-                (folder / file).write_bytes(octets)
-            begun.append(deltat.now())
-            found.append(lives_of(kind, folder, params, changed))
-    (life, silence, *left), (other_life, other_silence, *other_left) = found
-    wants(life == other_life and len(left) == len(other_left), f"{name}: {found}")
-    # (a node that knows when its last life ended is silent for the rest: less, the later it starts)
-    apart = min(abs(silence - other_silence), abs(silence + begun[0] - other_silence - begun[1]))
-    for one, other in zip(left, other_left):
-        (one, at), (other, other_at) = without_moment(one), without_moment(other)
-        wants(one == other and (at is None) == (other_at is None), f"{name}: {one}, {other}")
-        if at is not None and other_at is not None:
-            apart = max(apart, min(abs(at - other_at), abs(at - begun[0] - other_at + begun[1])))
-    return apart
-
-
-def same_folders() -> str:
-    """What lib/udp/state.c and deltat.State answer and write is the same, after each way in which a life may have ended:
-    octet for octet, but for the moments of two starts, which are near each other, and lives that are drawn."""
-    count = 0
-    logging.getLogger("deltat").setLevel(logging.ERROR)
-    for changed in (False, True):
-        for name, files, params in folders():
-            apart = compared(name, files, params, changed)
-            for _ in range(3):
-                if apart >= APART:  # (a machine that others load may stop a start)
-                    apart = compared(name, files, params, changed)
-            wants(apart < APART, f"{name}: moments differ by {apart} ms")
-            count += 1
-    logging.getLogger("deltat").setLevel(logging.NOTSET)
-    return f"{count} folders"
-
-
 def recorded() -> str:
     """Nodes that keep a record, with the watch: the record has the frames without their trailers."""
     with tempfile.TemporaryDirectory() as folder:
@@ -729,7 +591,6 @@ CASES = [
     busy_at_first,
     unlisted,
     alarms,
-    same_folders,
     recorded,
     large,
     short,

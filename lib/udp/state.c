@@ -1,6 +1,5 @@
 /* The state folder of a node: what has to outlive a program, so that the next start of its node is safe.
- * docs/formats.md has the form of its files. bindings/python/deltat/state.py keeps the same ones, for nodes that no
- * driver opened: tests/udp_binding.py compares what both answer and write.
+ * docs/formats.md has the form of its files, and bindings/python/deltat/state.py keeps the same ones.
  *
  * Nothing leaves the node, and nothing is passed to it, later than the moment in the file `last`, which is written
  * ahead of time: so a program that is killed at any instruction leaves a moment that is late enough. */

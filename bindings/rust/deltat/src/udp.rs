@@ -34,10 +34,6 @@ pub struct Peer {
 /// was last found empty, by a reading of the clock before that look. std's socket has no time stamps,
 /// so it waits in slices of 10 ms. Datagrams of addresses that aren't a peer's are dropped.
 ///
-/// New programs take the crate `deltat-udp`, whose driver measures how old each datagram is. This one has a loop
-/// of its own, since it needs nothing but libdeltat and std: it is for nodes with several links, for systems
-/// without libdeltat-udp, and for neighbours without the watch.
-///
 /// A program calls [`turn`](Udp::turn) again and again, and between turns the calls of
 /// [`node`](Udp::node) that take the time, with the time that the turn returned. What these make is
 /// put on the wire by the next turn, or by [`flush`](Udp::flush) before long work.
