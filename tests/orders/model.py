@@ -659,36 +659,36 @@ class Run:
     # the referee
 
     def executes(self, wire, uid, state):
-        holds(uid not in state.done, f"T1: order {uid} is executed a second time")
+        holds(uid not in state.done, f"order {uid} is executed a second time")
         told = self.tells.get(uid)
-        holds(told != NEVER, f"T3: order {uid} is executed after NEVER was told")
-        holds(told != UNKNOWN, f"T5: order {uid} is executed after UNKNOWN was told")
+        holds(told != NEVER, f"order {uid} is executed after NEVER was told")
+        holds(told != UNKNOWN, f"order {uid} is executed after UNKNOWN was told")
         self.executed[uid] = wire.client
         self.counts["executed"] += 1
 
     def judged(self, server, knows, is_path):
-        """T6: a server refuses exactly who knows what isn't in its store's history."""
+        """A server refuses exactly who knows what isn't in its store's history."""
         if server.name in self.set_back_nodes:
             is_so = knows is None or is_on(self.commits[knows[1:]], server.disk.tip)
             holds(
                 is_so == is_path,
-                f"T6: {'refused, though' if is_so else 'served, though not'} all that it knows is in the store",
+                f"{'refused, though' if is_so else 'served, though not'} all that it knows is in the store",
             )
         else:
-            holds(is_path, "T6: refused, though the store was never set back")
+            holds(is_path, "refused, though the store was never set back")
 
     def accepted(self, client, heard):
-        """T6: what a client was told DONE is in the history of what it hears, until it is told otherwise."""
+        """What a client was told DONE is in the history of what it hears, until it is told otherwise."""
         if client.out.server.name in self.set_back_nodes:
             new = self.commits[heard[1:]]
             for old in self.heard.get(client.name, ()):
-                holds(is_on(old, new) or is_on(new, old), "T6: a client isn't told that what it was told DONE is gone")
+                holds(is_on(old, new) or is_on(new, old), "a client isn't told that what it was told DONE is gone")
 
     def alarmed(self, client):
         server = client.out.server
         holds(
             not is_on(self.commits[client.known[1:]], server.disk.tip),
-            "T6: a client is told of a set back that took nothing from it",
+            "a client is told of a set back that took nothing from it",
         )
 
     def adopted(self, client):
@@ -698,7 +698,7 @@ class Run:
 
     def told(self, client, uid, fate, heard):
         had = self.tells.get(uid)
-        holds(had is None or had == fate, f"T4: order {uid} is told {had} and then {fate}")
+        holds(had is None or had == fate, f"order {uid} is told {had} and then {fate}")
         if had is not None:
             return
         self.tells[uid] = fate
@@ -708,25 +708,25 @@ class Run:
         if fate[0] == "done":
             told_at = self.commits[heard[1:]]
             if isinstance(fate[1], tuple):
-                holds(uid in told_at.state.done, f"T2: order {uid} is told DONE and wasn't executed")
+                holds(uid in told_at.state.done, f"order {uid} is told DONE and wasn't executed")
                 sub, end = fate[1][1:]
-                holds(self.ordered_by[sub] == uid, f"T8: order {uid} has the result of another chain")
+                holds(self.ordered_by[sub] == uid, f"order {uid} has the result of another chain")
                 if end[0] == "done" and "c" not in self.set_back_nodes:
                     holds(
                         self.c.disk.tip.state.done.get(sub) == end[1],
-                        f"T8: order {sub} of {uid} wasn't executed so",
+                        f"order {sub} of {uid} wasn't executed so",
                     )
             else:
                 holds(
                     told_at.state.done.get(uid) == fate[1],
-                    f"T2: order {uid} is told DONE with a result that it hasn't",
+                    f"order {uid} is told DONE with a result that it hasn't",
                 )
             self.heard.setdefault(client.name, []).append(told_at)
         elif fate == NEVER:
-            holds(uid not in server.disk.tip.state.done, f"T3: order {uid} is told NEVER and was executed")
+            holds(uid not in server.disk.tip.state.done, f"order {uid} is told NEVER and was executed")
         else:
             is_so = self.forgot or client.name in self.set_back_nodes or self.has_twin
-            holds(is_so, f"T5: order {uid} is UNKNOWN, though nothing was forgotten, nor was its client set back")
+            holds(is_so, f"order {uid} is UNKNOWN, though nothing was forgotten, nor was its client set back")
 
     def opened(self, node):
         state = node.state
@@ -736,12 +736,12 @@ class Run:
             for uid, client in self.executed.items():
                 holds(
                     client is not node or uid in here,
-                    f"T0: order {uid} is executed, and its client doesn't know of it",
+                    f"order {uid} is executed, and its client doesn't know of it",
                 )
         if node.ins and node.name not in self.set_back_nodes:
             for uid, fate in self.tells.items():
                 if fate[0] == "done" and (node is self.b) != isinstance(uid, tuple):
-                    holds(uid in state.done, f"T2: order {uid} was told DONE, and isn't in the store any more")
+                    holds(uid in state.done, f"order {uid} was told DONE, and isn't in the store any more")
 
     # what the adversary does
 
@@ -1002,7 +1002,7 @@ class Run:
             self.deliver(wire, 0, True)
 
     def settle(self):
-        """From now on nothing dies, nothing is lost and handlers don't fail: each order gets its fate (T7)."""
+        """From now on nothing dies, nothing is lost and handlers don't fail: each order gets its fate."""
         self.do_open()
         for _ in range(40):
             for node in self.nodes:
@@ -1032,7 +1032,7 @@ class Run:
             if not any(order for node in self.clients() for _, order in node.state.lanes.values()):
                 break
         else:
-            raise Broken("T7: an order has no fate")
+            raise Broken("an order has no fate")
         for node in self.nodes:
             node.sync()
             self.kill(node, True)
@@ -1052,20 +1052,20 @@ class Run:
             server, state = node.out.server, node.state
             done = server.state.done
             for uid, (fate, heard) in state.fates.items():
-                holds(self.tells.get(uid) == fate, f"T4: order {uid} has a fate that wasn't told")
+                holds(self.tells.get(uid) == fate, f"order {uid} has a fate that wasn't told")
                 if server.name not in self.set_back_nodes and fate != UNKNOWN:
                     holds(
                         (uid in done) == (fate[0] == "done"),
-                        f"T2, T3: order {uid} ended {fate[0]}, and that isn't so",
+                        f"order {uid} ended {fate[0]}, and that isn't so",
                     )
             for uid in self.given_over:
-                holds(uid in state.fates or node is not self.a, f"T7: order {uid} has no fate")
+                holds(uid in state.fates or node is not self.a, f"order {uid} has no fate")
             if node is self.b and "c" not in self.set_back_nodes:
                 noted = [*state.fates, *(order[0] for _, order in state.lanes.values() if order)]
                 subs = Counter(self.ordered_by[sub] for sub in noted)
                 for uid in state.done:
                     if uid in self.chained:
-                        holds(subs[uid] == 1, f"T8: order {uid} was executed, and {subs[uid]} orders of it were noted")
+                        holds(subs[uid] == 1, f"order {uid} was executed, and {subs[uid]} orders of it were noted")
 
 
 # --- single runs, told line by line
