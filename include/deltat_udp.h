@@ -315,6 +315,21 @@ uint32_t dt_udp_life(dt_udp *udp);
 /* Returns the counters, which belong to the driver. */
 const struct dt_udp_counts *dt_udp_get_counts(dt_udp *udp);
 
+/* Records what passes from now on into a file, for Wireshark and tools/trace_token.py: each datagram, and each call,
+ * request, reply and end of a call with its token (docs/formats.md, "Recordings"). A file of that name is replaced; an
+ * earlier recording ends. It ends by itself before the file would have more than `max_octets`. A null `path` ends it,
+ * and so does dt_udp_close. What passed since the driver last waited isn't in the file yet.
+ *   DT_OK
+ *   DT_INVALID    the file can't be made; `error` (or null) has the errno. Nothing is recorded
+ *   DT_NO_MEMORY  nothing is recorded
+ *   DT_STOPPED, DT_NOT_OPEN  the driver failed, or this is a forked child
+ * Cost: 256 KB while it records; a copy of each datagram, and a system call for each wait. */
+dt_status dt_udp_record(dt_udp *udp, const char *path, uint64_t max_octets, struct dt_udp_error *error);
+
+/* Returns whether the driver records: DT_OK; DT_NONE: no; DT_FULL: it ended at `max_octets`; DT_NOT_OPEN: it ended since
+ * the system refused a write, and the file has what was written before. */
+dt_status dt_udp_recording(dt_udp *udp);
+
 /* Returns the handle of the node or of the service, for calls of deltat.h that the driver doesn't
  * have (counters, dt_node_count_flow, dt_service_stop ..); null if the driver has the other. Never call
  * what takes `now`, and never take datagrams, reports, messages or events by it. */

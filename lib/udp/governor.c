@@ -383,6 +383,7 @@ static enum entry enter_call(dt_udp *u, struct waiting *it, uint64_t now) {
         return ENTERED;
     }
     it->call = made.call;
+    dtu_record_entered(u, &it->token, made.call);
     struct waiting *named = realloc(it, sizeof *it); /* (its octets aren't needed any more) */
     if (named) it = named;
     it->next = u->governing.named[it->call % NAMED];

@@ -182,6 +182,7 @@ void dt_udp_close(dt_udp *u) {
     if (u == NULL) return;
     (void)dtu_is_usable(u);
     dtu_count_close(u);
+    dtu_record_close(u);
     dtu_core_close(&u->core);
     dtu_state_close(u);
     dtu_events_close(u);

@@ -155,6 +155,7 @@ static void receive_driven(dt_udp *u, struct arrival *it) {
 /* Takes a datagram: one of the drivers' own, or a frame that came from its maker's address. */
 static void receive(dt_udp *u, struct arrival *it) {
     u->counts.datagrams_in++;
+    dtu_record_datagram(u, &(struct passing){.peer = it->from, .own = &it->own}, it->octets, it->len);
     if (u->core.driven) {
         receive_driven(u, it);
         return;

@@ -19,6 +19,7 @@
  *   driven.c    nodes that the program opened: neighbours, hooks, the keeper
  *   batch.c     many events at once
  *   counters_file.c  counters in a mapped file, for whoever watches the node
+ *   recording.c what passes, in a file for Wireshark and tools/trace_token.py
  */
 #ifndef DELTAT_UDP_INTERNAL_H
 #define DELTAT_UDP_INTERNAL_H
@@ -393,6 +394,7 @@ struct dt_udp {
     struct incoming in;
     struct outgoing out;
     struct counting *counting; /* null: no counters file */
+    struct recording *recording; /* null: nothing is recorded */
     uint8_t *event_room; /* what a service's last event points to */
     int socket, epoll, timer, family;
     int read_timeout_ms;  /* SO_RCVTIMEO as it was set last; 0: it isn't */
@@ -616,5 +618,32 @@ void dtu_count_alarm(dt_udp *u, uint8_t cause);
 void dtu_count_age(dt_udp *u, uint64_t us);
 void dtu_count_out(dt_udp *u, const struct iovec *frame);
 void dtu_count_in(dt_udp *u, const struct arrival *a, dt_status status);
+
+/* --- recording.c: without a recording each does nothing */
+
+/* A datagram that passes, from or to a peer's address. */
+struct passing {
+    const struct address *peer;
+    const struct own_address *own; /* or null */
+    bool out;
+};
+
+/* A call that the program made. */
+struct called {
+    uint64_t call;
+    size_t len;
+    uint32_t timeout_ms;
+    dt_status status;
+    bool waits; /* in the driver */
+};
+
+void dtu_record_datagram(dt_udp *u, const struct passing *it, const uint8_t *octets, size_t len);
+void dtu_record_call(dt_udp *u, const struct dt_flow *flow, const struct called *it);
+void dtu_record_entered(dt_udp *u, const struct dt_token *token, uint64_t as);
+void dtu_record_reply(dt_udp *u, const struct dt_token *token, size_t len, dt_status status);
+void dtu_record_forgotten(dt_udp *u, const struct dt_token *token);
+void dtu_record_event(dt_udp *u, const struct dt_udp_event *it);
+void dtu_record_waits(dt_udp *u);
+void dtu_record_close(dt_udp *u);
 
 #endif

@@ -146,9 +146,16 @@ static void hold(dt_udp *u, const struct peer *peer, const struct iovec *frame) 
     memcpy(u->held.octets, frame->iov_base, frame->iov_len);
 }
 
+static void record(dt_udp *u, const struct peer *peer, const struct iovec *frame) {
+    if (u->recording == NULL) return;
+    struct passing it = {.peer = &peer->at, .own = &peer->own, .out = true};
+    dtu_record_datagram(u, &it, frame->iov_base, frame->iov_len);
+}
+
 static void sent(dt_udp *u, unsigned i) {
     struct peer *peer = u->out.peers[i];
     const struct msghdr *head = &u->out.heads[i].msg_hdr;
+    for (size_t k = 0; k < head->msg_iovlen; k++) record(u, peer, head->msg_iov + k);
     u->counts.datagrams_out += head->msg_iovlen;
     peer->sent_at = u->out.made_at;
     if (!peer->answered && head->msg_iov->iov_len <= sizeof u->held.octets) hold(u, peer, head->msg_iov);
@@ -180,6 +187,7 @@ static void send_singly(dt_udp *u, unsigned i, int why) {
         u->counts.writes++;
         if (sendmsg(u->socket, head, FLAGS) >= 0) {
             u->counts.datagrams_out++;
+            record(u, u->out.peers[i], head->msg_iov);
             continue;
         }
         all = false;
@@ -224,6 +232,7 @@ void dtu_write_control(dt_udp *u, const struct arrival *to, const uint8_t *octet
     if (head.msg_controllen == 0) head.msg_control = NULL;
     u->counts.writes++;
     if (sendmsg(u->socket, &head, FLAGS) < 0) u->counts.not_sent++;
+    else dtu_record_datagram(u, &(struct passing){.peer = &address, .own = &to->own, .out = true}, octets, len);
 }
 
 /* Sends the last frame to a peer once more, if it isn't late yet: a repeat, which does no harm. */
@@ -231,7 +240,10 @@ void dtu_write_held(dt_udp *u, const struct peer *peer) {
     struct held *it = &u->held;
     if (it->len == 0 || it->to != peer->node || is_late(it->made_at)) return;
     u->counts.writes++;
-    if (sendto(u->socket, it->octets, it->len, FLAGS, &peer->at.name.any, peer->at.len) >= 0) u->counts.datagrams_out++;
+    if (sendto(u->socket, it->octets, it->len, FLAGS, &peer->at.name.any, peer->at.len) >= 0) {
+        u->counts.datagrams_out++;
+        record(u, peer, &(struct iovec){it->octets, it->len});
+    }
     it->len = 0;
 }
 

@@ -355,6 +355,8 @@ FUNCTIONS: dict[str, tuple[Any, list[Any]]] = {
     "dt_udp_silent_ms": (ctypes.c_uint64, [ctypes.c_void_p]),
     "dt_udp_life": (ctypes.c_uint32, [ctypes.c_void_p]),
     "dt_udp_get_counts": (ctypes.POINTER(Counts), [ctypes.c_void_p]),
+    "dt_udp_record": (ctypes.c_uint8, [ctypes.c_void_p, ctypes.c_char_p, ctypes.c_uint64, ctypes.POINTER(Error)]),
+    "dt_udp_recording": (ctypes.c_uint8, [ctypes.c_void_p]),
     "dt_udp_node": (ctypes.c_void_p, [ctypes.c_void_p]),
     "dt_udp_service": (ctypes.c_void_p, [ctypes.c_void_p]),
     "dt_udp_drive": (ctypes.c_void_p, [ctypes.POINTER(Driven), ctypes.POINTER(Options), ctypes.POINTER(Error)]),

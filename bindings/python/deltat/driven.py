@@ -20,7 +20,7 @@ from ._c import Status
 from ._library import drivers
 from .errors import InvalidArgument, OutOfMemory, StateError, Stopped, UdpError
 from .hooked import Hooked, is_hooked
-from .values import Flow, flow_to_c, params_of
+from .values import Flow, flow_to_c, in_range, params_of
 from .watch import Alarm
 
 if TYPE_CHECKING:
@@ -259,6 +259,17 @@ class Driver:
         self._put_token(flow, call)
         status: int = self._short.dt_udp_forget(self._handle or self._open(), self._token)
         return status
+
+    def record(self, path: str | os.PathLike[str] | None, max_octets: int) -> None:
+        error, name = _c_udp.Error(), None if path is None else os.fsencode(path)
+        status = self._waits.dt_udp_record(self._open(), name, in_range(max_octets, 64, "max_octets"), error)
+        if status == Status.INVALID:
+            raise OSError(error.system_error, os.strerror(error.system_error), os.fspath(path or ""))
+        self.check(status)
+
+    @property
+    def is_recording(self) -> bool:
+        return bool(self._handle) and self._short.dt_udp_recording(self._handle) == Status.OK
 
     @property
     def not_sent(self) -> int:

@@ -89,6 +89,19 @@ class AnyUdp:
         closed."""
         return self._driven.counts
 
+    def record(self, path: str | os.PathLike[str] | None, max_octets: int = 1 << 30) -> None:
+        """Records what passes from now on into a file that Wireshark and tools/trace_token.py read, in place of one
+        that is there: each datagram, and each call, request, reply and end with its token. The recording ends at
+        `max_octets`, with `None` as path, and when the socket is closed. Raises OSError if the file can't be made;
+        OutOfMemory or Stopped."""
+        with self._lock:
+            self._driven.record(path, max_octets)
+
+    @property
+    def is_recording(self) -> bool:
+        """Whether a recording continues: it ends early at its `max_octets`, or when the disk is full."""
+        return self._driven.is_recording
+
     @property
     def is_closed(self) -> bool:
         """Whether it was closed, or is in a forked child."""

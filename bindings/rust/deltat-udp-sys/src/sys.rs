@@ -859,6 +859,29 @@ extern "C" {
     /// Returns the counters, which belong to the driver.
     pub fn dt_udp_get_counts(udp: *mut dt_udp) -> *const dt_udp_counts;
 
+    /// Records what passes from now on into a file, for Wireshark and tools/trace_token.py: each datagram, and each
+    /// call, request, reply and end of a call with its token (docs/formats.md, "Recordings"). A file of that name
+    /// is replaced; an earlier recording ends. It ends by itself before the file would have more than `max_octets`.
+    /// A null `path` ends it, and so does dt_udp_close. What passed since the driver last waited isn't in the file
+    /// yet.
+    ///
+    /// - `DT_OK`
+    /// - `DT_INVALID`: the file can't be made; `error` (or null) has the errno. Nothing is recorded
+    /// - `DT_NO_MEMORY`: nothing is recorded
+    ///
+    /// DT_STOPPED, DT_NOT_OPEN the driver failed, or this is a forked child Cost: 256 KB while it records; a copy
+    /// of each datagram, and a system call for each wait.
+    pub fn dt_udp_record(
+        udp: *mut dt_udp,
+        path: *const c_char,
+        max_octets: u64,
+        error: *mut dt_udp_error,
+    ) -> dt_status;
+
+    /// Returns whether the driver records: DT_OK; DT_NONE: no; DT_FULL: it ended at `max_octets`; DT_NOT_OPEN: it
+    /// ended since the system refused a write, and the file has what was written before.
+    pub fn dt_udp_recording(udp: *mut dt_udp) -> dt_status;
+
     /// Returns the handle of the node or of the service, for calls of deltat.h that the driver doesn't have
     /// (counters, dt_node_count_flow, dt_service_stop ..); null if the driver has the other. Never call what takes
     /// `now`, and never take datagrams, reports, messages or events by it.
