@@ -11,9 +11,11 @@ It refuses, each with page and line:
 - a library on a crate's line in crates.txt of which the crate names nothing;
 - a clause of `run` that docs/headline.md doesn't name;
 - a word of a line that is written or read and that docs/formats.md doesn't name;
-- a count of the files that have a row for each written or read line, where the sources have other files;
+- a count of the files that a new line, export or report or another retransmission rule costs, where the sources have
+  other files;
 - a list of docs/headline.md that differs from the definitions that its sentences rest on;
-- a file of a crate that says nothing of itself, so that docs/files.py would list it without a word;
+- a file of a crate that says nothing of itself, so that docs/files.py would list it without a word; and a decision of
+  docs/decisions.txt about a file that isn't there;
 - a copy of the header that differs from what release/interface.py makes of it, and exports of crates/dt_c that differ
   from it;
 - a public name of the library, in C, Python or Rust, that the table of words of docs/library.md doesn't have, or has
@@ -492,12 +494,65 @@ def files_with_all_of(it: Sum) -> list[str]:
     return [path for _, path in sorted(found)]
 
 
+@cache
+def kept() -> tuple[Path, ...]:
+    """The files with text that a rule or a word may be in: no page but docs/formats.md, no proof, and no test of a
+    crate."""
+    wanted = (".antt .c .h .hpp .html .lua .py .rs .rt .sh .symbols").split()
+    found = []
+    for name in files():
+        path = TOP / name
+        is_page = path.suffix == ".md" and name != "docs/formats.md"
+        is_foreign = name.startswith("crates/") and re.search(r"/proofs/|_tests/|/must-fail/", name)
+        if path.is_file() and not is_page and not is_foreign and path != Path(__file__).resolve():
+            if path.suffix in wanted or name in ("docs/formats.md", "conformance/INDEX"):
+                found.append(path)
+    return tuple(sorted(found))
+
+
+@cache
+def words_in(path: Path) -> frozenset[str]:
+    return frozenset(re.findall(r"[A-Za-z_]\w*", text_of(path)))
+
+
+def outside(words: set[str], share: float) -> list[str]:
+    """The files outside the crates that have this share of the words."""
+    assert words, "no words were found in the sources"
+    found = [it for it in kept() if not it.is_relative_to(TOP / "crates")]
+    return [it.relative_to(TOP).as_posix() for it in found if len(words & words_in(it)) >= share * len(words)]
+
+
+# the sum of a segment's last transmission and rto, in whichever language
+RESENDS = re.compile(r"\blast\b.*\brto\b|\brto\b.*\blast\b")
+
+
+def writers() -> Iterator[tuple[str, str, list[str]]]:
+    """What is written in many places that no type holds together: what changes, by what its places are found, and
+    these."""
+    it = interface.header()
+    exports = {one.name for one in it.functions}
+    homes = [path for path in kept() if path.parent == TOP / "crates/dt_c/src" and "exports" in path.stem]
+    declare = [path.relative_to(TOP / "crates").as_posix() for path in homes]
+    yield "an export of the library: one of the files of dt_c, and all others", "the exports", [
+        *declare, *outside(exports, 1)
+    ]
+    reports = set(re.findall(r"DT_REPORT_\w+", text_of(interface.HEADER)))
+    yield "a report of the library, beside `StationReport`", "`DT_REPORT_..`", outside(reports, 1)
+    yield "a line that is written, outside the crates", "three of four words", outside(written_words(), 0.75)
+    yield "a line that is read, outside the crates", "three of four words", outside(read_words(), 0.75)
+    sources = [path for path in kept() if path.suffix != ".md"]
+    rule = [path for path in sources if any(RESENDS.search(line) for line in text_of(path).splitlines())]
+    places = [path.relative_to(TOP).as_posix().removeprefix("crates/") for path in rule]
+    yield "the retransmission rule", "`last` and `rto`", places
+
+
+def row_of_cost(what: str, by: str, paths: list[str]) -> str:
+    return f"| {what} | {by} | {len(paths)} | {', '.join(f'`{path}`' for path in paths)} |"
+
+
 def lines_of_costs() -> list[str]:
-    lines = []
-    for it in SUMS:
-        found = files_with_all_of(it)
-        lines.append(f"| {it.variant} | `{it.type}` | {len(found)} | {', '.join(f'`{path}`' for path in found)} |")
-    return lines
+    of_types = [row_of_cost(it.variant, f"`{it.type}`", files_with_all_of(it)) for it in SUMS]
+    return [*of_types, *(row_of_cost(*it) for it in writers())]
 
 
 def check_costs() -> Iterator[Complaint]:
@@ -521,6 +576,9 @@ def check_files() -> Iterator[Complaint]:
         for path in headings.files_of(crate) if crate.is_dir() else ():
             if not headings.heading(path):
                 yield Complaint(path, 1, "nothing says what the file has")
+    for path in headings.decisions():
+        if not path.is_file():
+            yield Complaint(TOP / "docs" / "decisions.txt", 1, f"there is no {path.relative_to(TOP)}")
 
 
 PLANTED = Path("must-fail", "planted.edit")

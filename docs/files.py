@@ -2,8 +2,9 @@
 """Says what each file of a crate has: `docs/files.py dt_host`, or of several crates; of all without a name.
 
 What stands behind a file is its first line of comment; where a file of `src/` has none, the first sentence of its
-first public item, behind that item's name. Files that answer one function's goals (proofs/MODULE/FUNCTION/) aren't
-listed: they bear its name. Ends with 1 where a listed file says nothing, and names it."""
+first public item, behind that item's name. A line below it has what was decided about the file (docs/decisions.txt).
+Files that answer one function's goals (proofs/MODULE/FUNCTION/) aren't listed: they bear its name. Ends with 1 where a
+listed file says nothing, and names it."""
 
 import re
 import sys
@@ -46,6 +47,13 @@ def first_sentence(text: str) -> str:
     return re.split(r"(?<=[.:]) (?=[A-Z])", text.strip(), maxsplit=1)[0].rstrip(":")
 
 
+def decisions() -> dict[Path, str]:
+    """What was decided about one file, by its path."""
+    lines = (TOP / "docs" / "decisions.txt").read_text().splitlines()
+    pairs = (line.split(": ", 1) for line in lines if line and not line.startswith("#"))
+    return {TOP / path: what for path, what in pairs}
+
+
 def main(names: list[str]) -> int:
     known = {path.name: path for path in sorted((TOP / "crates").iterdir()) if path.is_dir()}
     strangers = [name for name in names if name not in known]
@@ -53,12 +61,15 @@ def main(names: list[str]) -> int:
         print(f"no such crate: {', '.join(strangers)}", file=sys.stderr)
         return 2
     silent = []
+    decided = decisions()
     for name in names or known:
         for path in files_of(known[name]):
             said = heading(path)
             if not said:
                 silent.append(path)
             print(f"{path.relative_to(TOP / 'crates')}  {said}".rstrip())
+            if path in decided:
+                print(f"    decided: {decided[path]}")
     for path in silent:
         print(f"{path.relative_to(TOP)}: nothing says what it has", file=sys.stderr)
     return 1 if silent else 0

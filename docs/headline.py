@@ -1,7 +1,8 @@
 #!/usr/bin/env python3
 """The lists of definitions in headline.md: those that the sentences of `run` and the laws beside it use, a list a
-command, lowest first, in rows of files of one crate, with their lines. Without a word it compares the page with the
-sources and ends with 1 if they differ; with `write` it writes the lists."""
+command, lowest first, in rows of files of one crate, with their lines. The page has the first list, and of the others
+their sizes. Without a word it compares the page with the sources and ends with 1 if they differ; with `write` it
+writes them; with `lists` it prints all lists."""
 
 import re
 import sys
@@ -49,19 +50,23 @@ def lines(path: str) -> int:
     return len((TOP / path).read_text().splitlines())
 
 
+def total(paths: list[str]) -> int:
+    return sum(map(lines, paths))
+
+
 def table(title: str, paths: list[str]) -> str:
     """A list: a row for each run of files of one crate, with the lines of each file."""
     rows = []
     for crate, group in groupby(paths, key=lambda path: path.split("/")[1]):
         rows.append(f"| {crate} | {', '.join(f'{Path(path).stem} {lines(path)}' for path in group)} |\n")
-    total = sum(map(lines, paths))
-    head = f"### {title}\n\n{len(paths)} files, {total} lines\n\n| crate | files with their lines |\n|---|---|\n"
+    head = f"### {title}\n\n{len(paths)} files, {total(paths)} lines\n\n| crate | files with their lines |\n|---|---|\n"
     return head + "".join(rows)
 
 
-def tables() -> str:
+def lists() -> dict[str, list[str]]:
+    """The files of each list, without those of the lists before it."""
     listed: list[str] = []
-    parts = []
+    made = {}
     for title, roots in COMMANDS.items():
         found = list(listed)
         for root in roots:
@@ -72,25 +77,35 @@ def tables() -> str:
                 collect(path, found)
                 found.remove(path)
                 found.append(path)
-        parts.append(table(title, [path for path in found if path not in listed]))
+        made[title] = [path for path in found if path not in listed]
         listed = found
     found = list(listed)
     for path in STATED:
         collect(path, found)
-    parts.append(table(REST, [path for path in found if path not in listed]))
-    return "\n".join(parts)
+    made[REST] = [path for path in found if path not in listed]
+    return made
+
+
+def shown() -> str:
+    """What the page has: the first list, and the sizes of the others."""
+    (title, first), *others = lists().items()
+    head = "\n| beside those | files | lines |\n|---|---|---|\n"
+    rows = [f"| {name.removesuffix(', beside those')} | {len(paths)} | {total(paths)} |\n" for name, paths in others]
+    return table(title, first) + head + "".join(rows)
 
 
 def rewritten(page: str) -> str:
     """The page with the lists that the sources make."""
     before, rest = page.split(BEGIN)
-    return before + BEGIN + tables() + END + rest.split(END)[1]
+    return before + BEGIN + shown() + END + rest.split(END)[1]
 
 
 def main(words: list[str]) -> int:
     page = PAGE.read_text()
     if words == ["write"]:
         PAGE.write_text(rewritten(page))
+    elif words == ["lists"]:
+        print("\n".join(table(title, paths) for title, paths in lists().items()), end="")
     elif words:
         print(__doc__)
         return 2

@@ -109,14 +109,17 @@ def layout(built: Built, folder: pathlib.Path) -> str:
     wants(said == mine, f"the header has {said}, the reader {mine}")
     page = (TOP / "docs" / "formats.md").read_text()
     page = page[page.index("## A counters file") :]
-    rows = re.findall(r"^\| (\d+) \| `(\w+)`(?: `(\w+)`)? \|", page, re.MULTILINE)
+    rows = []
+    for first, name, labels in re.findall(r"^\| (\d+) \| `(\w+)`((?:,? `\w+`)*) \|", page, re.MULTILINE):
+        of_row = re.findall(r"`(\w+)`", labels) or [""]
+        rows += [(int(first) + at, name, label) for at, label in enumerate(of_row)]
     places = [(counted.FIRST_COUNTER, counted.COUNTERS), (counted.FIRST_GAUGE, counted.GAUGES)]
     own = [
         (first + at, it.metric, it.labels[0][1] if it.labels else "")
         for first, names in places
         for at, it in enumerate(names)
     ]
-    wants([(int(at), name, label) for at, name, label in rows] == own, "docs/formats.md has other words")
+    wants(rows == own, "docs/formats.md has other words")
     # (the driver's own counts have the order of their struct)
     header = (TOP / "include" / "deltat_udp.h").read_text()
     struct_ = header[header.index("struct dt_udp_counts {") :].split("};")[0]
