@@ -246,6 +246,7 @@ def interfaces(folder: str) -> bool:
     former = pathlib.Path(folder, "former")
     of_interface(former, "dt_abi", 1)
     ran(["ar", "rcs", "libdeltat.a", "told.o"], 30, cwd=former)
+    shutil.copy(LIBRARY / ARCHIVES[1], former)
     it = cargo(f"{folder}/interfaces", "build", "--example", "min", DELTAT_LIB_DIR=str(former))
     right = it.returncode != 0 and "dt_abi_version" in it.stderr
     if not right:
