@@ -353,6 +353,75 @@ struct dt_udp_keeper {
     void *user;
 };
 
+/* The state folder of a node that the program opens itself, to be driven or with a wire of its own: what options.state
+ * is of dt_udp_open. docs/formats.md has the form of its files. */
+typedef struct dt_udp_state dt_udp_state;
+
+/* Zero the struct, and set `size` and what you need. */
+struct dt_udp_state_options {
+    uint32_t size;                  /* sizeof(struct dt_udp_state_options) */
+    uint32_t node;                  /* number of the node */
+    const struct dt_params *params; /* of the network; copied */
+    const char *folder;             /* its path; it is made if it isn't there */
+    const char *boot;               /* 36 of "0-9a-f-": names what the readings count from [the system's name of this
+                                       start of the machine, from which CLOCK_BOOTTIME counts] */
+    int64_t clock_ahead;            /* with `boot`: ns by which the readings are ahead of those of other processes */
+    uint8_t start_as;               /* DT_UDP_START_BY_STATE, or DT_UDP_START_AGAIN: as in options.start_as */
+    bool params_changed;            /* as DT_UDP_FLAG_PARAMS_CHANGED */
+};
+
+/* How the node starts, as its folder says. */
+struct dt_udp_state_start {
+    const char *why;  /* one line: what that rests on */
+    char warning[64]; /* a file that was damaged or gone, for an operator; else empty */
+    uint32_t life;    /* the last that was counted: no earlier life of the node had it */
+    uint8_t start;    /* enum dt_start */
+};
+
+/* Opens a state folder, takes its lock, and counts a life, which is on the disk when this returns. One folder is for one
+ * opening of a node. Returns null if that fails, and `error` says why: DT_EXISTS (another process has it), DT_INVALID
+ * (it is of another node or of other parameters; an option is wrong; no lives are left), DT_NO_MEMORY, DT_NOT_OPEN (it
+ * can't be read or written). Cost: two syncs of the disk. With `params_changed` it may wait for the rest of a silence. */
+dt_udp_state *dt_udp_state_open(const struct dt_udp_state_options *options, struct dt_udp_error *error);
+
+/* Returns how the node starts. It belongs to the state. */
+const struct dt_udp_state_start *dt_udp_state_get_start(dt_udp_state *state);
+
+/* Sets `at` to the reading to open the node at: the end of its last life, if that is known, so that the node is silent
+ * for the rest only, or `now`. Until the rest is over nothing is noted.
+ *   DT_OK
+ *   DT_EXISTS    it was called before: open another state for another opening
+ *   DT_NOT_OPEN  it can't be written, or the state is closed, or this is a forked child; don't open the node */
+dt_status dt_udp_state_begin(dt_udp_state *state, uint64_t now, uint64_t *at);
+
+/* Returns the keeper, for dt_udp_drive: the driver notes each input then. It belongs to the state, until that is freed. */
+struct dt_udp_keeper *dt_udp_state_keeper(dt_udp_state *state);
+
+/* Notes that at this reading a datagram may leave the node, or is passed in. A program with a wire of its own calls it
+ * before each input of the node, except a tick at which nothing is due. Cost: three comparisons, and each quarter of
+ * the quiet time a write of 125 octets.
+ *   DT_OK
+ *   DT_NOT_OPEN  it can't be written, or the state is closed, or this is a forked child: don't do the input */
+dt_status dt_udp_state_note(dt_udp_state *state, uint64_t at);
+
+/* Counts one more life, for dt_service_set_life. It is on the disk when this returns. Sets `life` to the last one.
+ *   DT_OK
+ *   DT_FULL      no lives are left
+ *   DT_NOT_OPEN  it can't be written, or the state is closed, or this is a forked child */
+dt_status dt_udp_state_next_life(dt_udp_state *state, uint32_t *life);
+
+/* Returns the errno of the write that failed last, or 0. */
+int dt_udp_state_system_error(dt_udp_state *state);
+
+/* With the node closed: writes when the last datagram left or was passed in, and frees the lock. Later calls are
+ * DT_NOT_OPEN. In a forked child it writes nothing, and the lock stays the parent's.
+ *   DT_OK
+ *   DT_NOT_OPEN  it can't be written: the next start counts with what was promised ahead */
+dt_status dt_udp_state_close(dt_udp_state *state);
+
+/* Frees the memory; null is allowed. A state that wasn't closed leaves what a killed program leaves. */
+void dt_udp_state_free(dt_udp_state *state);
+
 /* A datagram that arrived. */
 struct dt_udp_datagram {
     const uint8_t *octets;

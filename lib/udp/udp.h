@@ -16,7 +16,7 @@
  *   events.c    what dt_udp_next_event returns
  *   calls.c     what a program asks of the node
  *   objects.c   objects, in chunks over several flows
- *   driven.c    nodes that the program opened: neighbours, hooks, the keeper
+ *   driven.c    nodes that the program opened: neighbours, hooks
  *   batch.c     many events at once
  *   counters_file.c  counters in a mapped file, for whoever watches the node
  *   recording.c what passes, in a file for Wireshark and tools/trace_token.py
@@ -276,7 +276,6 @@ struct core {
 
 /* What there is of a node that the program opened. */
 struct driven {
-    struct dt_udp_keeper *keeper;
     struct peer **there;   /* neighbours by address: `size` buckets, a power of 2; null: none */
     size_t count, size;
     struct peer *hop;      /* the neighbour on a link that was looked for last */
@@ -360,17 +359,6 @@ struct objects {
     uint8_t room[65536];             /* a message that is sent */
 };
 
-/* The state folder; its descriptors are -1 without one. */
-struct state {
-    int folder, lock, last;
-    bool again;      /* the node may have had an earlier life */
-    bool has_state;  /* the file `state` was whole */
-    bool ends_known; /* `ended`: when the last life ended, in ms */
-    bool has_until;  /* `until`: what the file `last` promises */
-    uint64_t ended, until, noted, quiet_until, ahead;
-    uint32_t life;
-};
-
 struct dt_udp {
     struct dt_udp_options options; /* its pointers are null after the opening, but for params */
     struct dt_params params;       /* what options.params points to */
@@ -383,7 +371,8 @@ struct dt_udp {
     struct ports ports;
     struct strangers strangers;
     struct held held;
-    struct state state;
+    dt_udp_state *state;           /* null: there is no state folder */
+    struct dt_udp_keeper *keeper;  /* that of the state folder, or the program's; null: there is none */
     struct objects objects;
     struct watching watching;
     struct governing governing;
@@ -487,9 +476,7 @@ bool dtu_is_control(dt_udp *u, struct arrival *arrival);
 void dtu_stranger(dt_udp *u, struct arrival *arrival);
 
 /* --- state.c */
-dt_status dtu_state_open(dt_udp *u, uint64_t *now, struct dt_udp_error *error);
-bool dtu_state_note(dt_udp *u, uint64_t at);
-void dtu_state_close(dt_udp *u);
+bool dtu_keep(struct dt_udp_keeper *keeper, uint64_t at);
 
 /* --- objects.c */
 void dtu_objects_close(dt_udp *u);
@@ -584,7 +571,6 @@ void dtu_write_held(dt_udp *u, const struct peer *peer);
 void dtu_driven_close(dt_udp *u);
 void dtu_driven_begin(dt_udp *u);
 void dtu_driven_send_made(dt_udp *u);
-bool dtu_driven_note(dt_udp *u, uint64_t at);
 void dtu_driven_receive(dt_udp *u, struct peer *peer, struct arrival *arrival);
 void dtu_driven_take(dt_udp *u, struct peer *peer, const struct arrival *arrival);
 struct peer *dtu_driven_neighbour(const dt_udp *u, const struct address *at);

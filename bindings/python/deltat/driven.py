@@ -20,6 +20,7 @@ from ._c import Status
 from ._library import drivers
 from .errors import InvalidArgument, OutOfMemory, StateError, Stopped, UdpError
 from .hooked import Hooked, is_hooked
+from .state import State
 from .values import Flow, flow_to_c, in_range, params_of
 from .watch import Alarm
 
@@ -315,6 +316,11 @@ class Driven(Driver):
     def _raise(self, status: int) -> None:
         self._node._raise(status)
 
+    def check(self, status: int) -> None:
+        if status and isinstance(self._node._state, State):
+            self._node._state.explain()
+        super().check(status)
+
     def set_neighbour(self, number: int, link: int, address: tuple[str, int]) -> None:
         """Sets the address of a node at the other end of a link. Raises InvalidArgument or OutOfMemory."""
         error = _c_udp.Error()
@@ -332,22 +338,22 @@ def _hooked(node: AnyNode, given: _c_udp.Driven, failures: list[BaseException]) 
 def _kept(node: AnyNode, given: _c_udp.Driven, failures: list[BaseException]) -> object:
     """Has the node's state told of each input before it is done."""
     state = node._state
+    if isinstance(state, State):
+        given.keeper = ctypes.pointer(state._keeper)
+        return state
     if state is None:
         return None
-    keeper = getattr(state, "_keeper", None)
-    extends = state.note_packet if keeper is None else state._extend
-    if keeper is None:
-        keeper = _c_udp.Keeper()
+    note_packet = state.note_packet  # (of a program's own class: it is asked of each input)
 
     def extend(_: object, at: int) -> bool:
         try:
-            extends(at)
+            note_packet(at)
         except BaseException as why:
             failures.append(why)
             return False
         return True
 
-    keeper.extend = _c_udp.KeeperExtend(extend)
+    keeper = _c_udp.Keeper(extend=_c_udp.KeeperExtend(extend))
     given.keeper = ctypes.pointer(keeper)
     return keeper
 

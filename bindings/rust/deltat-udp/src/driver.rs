@@ -83,7 +83,7 @@ mod role {
 unsafe impl<K: Kind> Send for Handle<K> {}
 
 /// As whole ms, rounded up: -1 is without limit, and longer waits are cut.
-fn wait_ms(wait: Option<Duration>) -> c_int {
+pub(crate) fn wait_ms(wait: Option<Duration>) -> c_int {
     wait.map_or(-1, |it| c_int::try_from(ms(it)).unwrap_or(c_int::MAX))
 }
 

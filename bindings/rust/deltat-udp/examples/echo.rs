@@ -10,17 +10,19 @@
 //! arrives at most once, whatever the network repeats; what wasn't acknowledged in time is reported.
 use std::env;
 use std::error::Error;
+use std::time::Duration;
 
 use deltat::{
-    now, Flow, Link, Messages, Network, Node, NodeOptions, Params, Peer, Report, ReportKind, Route,
-    Start, Udp,
+    now, Flow, Link, Messages, Network, Node, NodeOptions, Params, Report, ReportKind, Route, Start,
 };
+use deltat_udp::{Driven, Peer};
 
 const LONGEST: usize = 65_536;
 const ASKING_MS: u64 = 20_000;
+const TURN: Duration = Duration::from_millis(50);
 
 /// Node 1 or 2, which receives at one port, and its peer.
-fn open(node: u32, port: u16, start: Start) -> Result<Udp<Messages>, Box<dyn Error>> {
+fn open(node: u32, port: u16, start: Start) -> Result<Driven<Messages>, Box<dyn Error>> {
     let address = |name, usual| env::var(name).unwrap_or_else(|_| format!("127.0.0.1:{usual}"));
     let peer = Peer { node: 3 - node, link: 1, address: address("PEER", 4003 - node).parse()? };
     // as `tools/params.py 250 50 --shelf 2` has them for all nodes
@@ -33,7 +35,7 @@ fn open(node: u32, port: u16, start: Start) -> Result<Udp<Messages>, Box<dyn Err
     it.enable_messages(LONGEST)?;
     // datagrams for other ports are blocked, and strangers open 1,000 flows at most
     it.set_guard(Some(&[port]), 1000)?;
-    Ok(Udp::bind(address("OWN", 4000 + node), it, &[peer])?)
+    Ok(Driven::bind(address("OWN", 4000 + node), it, &[peer])?)
 }
 
 fn tell(report: Report) {
@@ -45,7 +47,7 @@ fn tell(report: Report) {
 fn serve(start: Start) -> Result<(), Box<dyn Error>> {
     let (mut udp, mut buf) = (open(2, 20, start)?, vec![0; LONGEST]);
     loop {
-        let at = udp.turn()?;
+        let at = udp.turn(None)?;
         udp.node.take_reports(tell)?;
         while let Some(message) = udp.node.next_message(at, &mut buf)? {
             buf[..message.len].reverse();
@@ -61,7 +63,7 @@ fn ask(start: Start, words: &[String]) -> Result<(), Box<dyn Error>> {
     let flow = Flow { source: 1, target: 2, source_port: 10, target_port: 20 };
     let (begun, mut unsent, mut answers) = (now(), words.iter().peekable(), 0);
     while answers < words.len() {
-        let at = udp.turn()?;
+        let at = udp.turn(Some(TURN))?;
         udp.node.take_reports(tell)?;
         while let Some(message) = udp.node.next_message(at, &mut buf)? {
             println!("{}", String::from_utf8_lossy(&buf[..message.len]));
@@ -80,7 +82,7 @@ fn ask(start: Start, words: &[String]) -> Result<(), Box<dyn Error>> {
         }
     }
     // the last answers are acknowledged
-    while udp.turn()? - begun < ASKING_MS {
+    while udp.turn(Some(TURN))? - begun < ASKING_MS {
         if !matches!(udp.node.wake()?, Some(it) if it < now() + 100) {
             break;
         }

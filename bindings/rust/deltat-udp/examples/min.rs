@@ -1,5 +1,6 @@
 //! Node 2 on port 4002 answers each message of node 1 on port 4001 with its octets reversed.
-use deltat::{now, Link, Network, Node, NodeOptions, Params, Peer, Route, Start, Udp};
+use deltat::{now, Link, Network, Node, NodeOptions, Params, Route, Start};
+use deltat_udp::{Driven, Peer};
 
 fn main() -> Result<(), Box<dyn std::error::Error>> {
     let network = Network { shelf: 2, ..Network::new(250_000, 50_000) };
@@ -11,10 +12,10 @@ fn main() -> Result<(), Box<dyn std::error::Error>> {
     node.enable_messages(65_536)?;
     node.set_guard(Some(&[20]), 1000)?; // datagrams for other ports are blocked
     let peer = Peer { node: 1, link: 1, address: "127.0.0.1:4001".parse()? };
-    let mut udp = Udp::bind("127.0.0.1:4002", node, &[peer])?;
+    let mut udp = Driven::bind("127.0.0.1:4002", node, &[peer])?;
     let mut buf = vec![0; 65_536];
     loop {
-        let at = udp.turn()?;
+        let at = udp.turn(None)?;
         udp.node.take_reports(|_| ())?;
         while let Some(message) = udp.node.next_message(at, &mut buf)? {
             buf[..message.len].reverse();

@@ -9,16 +9,19 @@
 //! are silent for two seconds at first. OWN and PEER in the environment are other addresses.
 use std::env;
 use std::error::Error;
+use std::time::Duration;
 
 use deltat::{
-    now, Calls, Declined, Event, Flow, Link, Network, NodeOptions, Params, Peer, PortKind, Route,
-    Service, ServiceOptions, Start, Udp, MAX_PAYLOAD,
+    now, Calls, Declined, Event, Flow, Link, Network, NodeOptions, Params, PortKind, Route,
+    Service, ServiceOptions, Start, MAX_PAYLOAD,
 };
+use deltat_udp::{Driven, Peer};
 
 const TIMEOUT_MS: u32 = 10_000;
+const TURN: Duration = Duration::from_millis(50);
 
 /// Node 1 or 2, and its peer.
-fn open(node: u32, life: u32, port: u16, kind: PortKind) -> Result<Udp<Calls>, Box<dyn Error>> {
+fn open(node: u32, life: u32, port: u16, kind: PortKind) -> Result<Driven<Calls>, Box<dyn Error>> {
     let address = |name, usual| env::var(name).unwrap_or_else(|_| format!("127.0.0.1:{usual}"));
     let peer = Peer { node: 3 - node, link: 1, address: address("PEER", 4003 - node).parse()? };
     let network = Network { shelf: 2, ..Network::new(250_000, 50_000) };
@@ -32,14 +35,14 @@ fn open(node: u32, life: u32, port: u16, kind: PortKind) -> Result<Udp<Calls>, B
     let mut service = Service::open(&params, &options, &limits)?;
     service.set_port(port, kind)?;
     service.set_guard(Some(&[port]), 1000)?;
-    Ok(Udp::bind(address("OWN", 4000 + node), service, &[peer])?)
+    Ok(Driven::bind(address("OWN", 4000 + node), service, &[peer])?)
 }
 
 fn serve() -> Result<(), Box<dyn Error>> {
     // it makes no calls, so its life names none
     let (mut udp, mut buf) = (open(2, 0, 20, PortKind::Service)?, vec![0; MAX_PAYLOAD]);
     loop {
-        let at = udp.turn()?;
+        let at = udp.turn(None)?;
         while let Some(event) = udp.node.next_event(&mut buf)? {
             match event {
                 Event::Request { token, len } => {
@@ -63,7 +66,7 @@ fn ask(life: u32, words: &[String]) -> Result<(), Box<dyn Error>> {
     let flow = Flow { source: 1, target: 2, source_port: 10, target_port: 20 };
     let (mut made, mut ended, mut unsure) = (0, 0, 0);
     while ended < words.len() {
-        let at = udp.turn()?;
+        let at = udp.turn(Some(TURN))?;
         while let Some(event) = udp.node.next_event(&mut buf)? {
             match event {
                 Event::Answered { user, len, .. } => {
