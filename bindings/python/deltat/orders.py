@@ -33,6 +33,7 @@ import sqlite3
 import struct
 import time
 import zlib
+from collections import deque
 from collections.abc import Awaitable, Callable, Iterable, Iterator, Sequence
 from concurrent.futures import ThreadPoolExecutor
 from dataclasses import dataclass, field
@@ -426,9 +427,10 @@ def _fate_record(uid: int, it: _Kept, lane: bytes, client: bytes) -> bytes:
 class _Book:
     """The client's half over a store: what to write and what to send. It sends nothing itself.
 
-    Records are appended to `unwritten`; `write` makes them durable. A request is made only of what is."""
+    Records are appended to `unwritten`; `write` makes them durable. A request is made only of what is. `frees` is
+    called with the number of a lane when it is free for the next order: at first, and when its order has its fate."""
 
-    def __init__(self, store: Store, lanes: int, once: bool, keep: int) -> None:
+    def __init__(self, store: Store, lanes: int, once: bool, keep: int, frees: Callable[[int], object]) -> None:
         if not 1 <= lanes <= 65_536:
             raise InvalidArgument(f"lanes is {lanes}; it must be 1 to 65536", "lanes", lanes)
         self.store, self.keep, self.state = store, keep, _State()
@@ -439,7 +441,10 @@ class _Book:
         self.unwritten: list[bytes] = []
         self.lanes = {it: self._lane(it, once) for it in {*range(lanes), *self.state.lanes}}
         self.client = bytes(self.lanes[0].client)
-        self.usable = range(lanes)
+        self.usable, self.frees, self.failure = range(lanes), frees, ""
+        for it in self.usable:
+            if self.order_of(it) is None:
+                frees(it)
         if len(records) > 4 * keep + 100:
             store.replace(self.state.records(keep))
         # what was read may not be durable yet: nothing is called or reported before a record behind it is
@@ -460,16 +465,31 @@ class _Book:
         self.appended += 1
 
     def take_unwritten(self) -> tuple[list[bytes], int]:
-        """What is to be written, and the number of its last record."""
+        """What is to be written, and the number of its last record. Raises NotStored."""
+        self.check()
         records, self.unwritten = self.unwritten, []
         return records, self.appended
 
+    def check(self) -> None:
+        """Raises NotStored if a write failed earlier: what it had isn't durable, and nothing that is behind it may be
+        called or reported."""
+        if self.failure:
+            raise NotStored(self.failure)
+
+    def fail(self, why: BaseException) -> None:
+        """A write failed."""
+        self.failure = self.failure or f"an earlier write of orders failed: {why}"
+
     def write(self) -> None:
-        """Makes all that was appended durable. Raises NotStored."""
+        """Makes all that was appended durable. Raises NotStored; what the store raises."""
         records, last = self.take_unwritten()
         if records:
-            self.store.write(records)
-        self.written = max(self.written, last)
+            try:
+                self.store.write(records)
+            except BaseException as why:
+                self.fail(why)
+                raise
+        self.written = last
 
     # orders
 
@@ -488,13 +508,15 @@ class _Book:
         has_order, uid, number, tag = struct.unpack_from(">QQQQ", bytes(self.lanes[lane].lane), 16)
         return Order(self.state.bodies[uid], uid, 0, lane, number, tag) if has_order else None
 
+    def is_open(self, order: Order) -> bool:
+        """Whether it has its lane. (Its number may be another one by now.)"""
+        it = self.order_of(order.lane) if order.lane in self.lanes else None
+        return it is not None and it.uid == order.uid
+
     def orders(self) -> list[Order]:
         """Those without a fate, in the order in which they were noted."""
         found = [it for lane in self.lanes if (it := self.order_of(lane))]
         return sorted(found, key=lambda it: it.uid)
-
-    def free_lane(self) -> int | None:
-        return next((it for it in self.usable if self.order_of(it) is None), None)
 
     def _turn(self, lane: int) -> OrdersLane:
         it = self.lanes[lane]
@@ -554,16 +576,21 @@ class _Book:
         record = _fate_record(order.uid, kept, bytes(self.lanes[order.lane].lane), self.client)
         self.state.read(record)
         self.append(record)
+        # (this is the one place where an order ends, so that its lane is free once)
+        if order.lane in self.usable:
+            self.frees(order.lane)
 
     def cancel(self, order: Order) -> None:
         """From now on its calls ask that it is never executed. If it was never called it has its fate."""
-        if self.order_of(order.lane) == order:
-            if _call(library.dt_orders_cancel, self._turn(order.lane)) == _Said.NEVER:
-                self._end(order, _Said.NEVER, b"", b"")
+        if self.is_open(order) and _call(library.dt_orders_cancel, self._turn(order.lane)) == _Said.NEVER:
+            self._end(order, _Said.NEVER, b"", b"")
 
-    def fate(self, uid: int) -> Fate | None:
-        """The order's fate, which may be reported when its record is written."""
-        it = self.state.fates.get(uid)
+    def fate(self, order: Order) -> Fate | None:
+        """The order's fate, which may be reported when its record is written. Raises InvalidArgument if the order has
+        none and gets none: it is no order of this store, was undone, or had its fate so long ago that it isn't kept."""
+        it = self.state.fates.get(order.uid)
+        if it is None and not self.is_open(order):
+            raise InvalidArgument(f"order {order.uid} isn't open, and the store doesn't have its fate")
         return it.fate if it else None
 
     def taken(self, uid: int) -> None:
@@ -691,7 +718,8 @@ class Orders:
         calls of `deltat` are; False over any other wire. `keep`: of how many orders that are done a set back tells.
         `waits`: how long to wait before the next call at first and at most. Raises NotStored; what the store raises."""
         self._sends, self._sleep, self._waits = sends, sleep, waits
-        self._book = _Book(store, 1, once, keep)
+        self._free = deque[int]()
+        self._book = _Book(store, 1, once, keep, self._free.append)
         self._undone: list[Order] | None = None
         self._told: list[int] = []
 
@@ -731,27 +759,30 @@ class Orders:
         """Notes an order: when it returns, the order is in the store, and `settle` calls it. Raises InvalidArgument if
         another order has no fate; StillOpen if the server wasn't heard of in time; SetBack; NotStored."""
         self._book.take_all(self._told)
+        self._book.check()
         self._check()
         self._meet(timeout)
-        lane = self._book.free_lane()
-        if lane is None:
+        if not self._free:
             raise InvalidArgument("an order has no fate yet: settle it first")
-        order = self._book.note(lane, body)
+        order = self._book.note(self._free[0], body)
+        self._free.popleft()
         self._book.write()
         return order
 
     def settle(self, order: Order, timeout: float | None = None) -> Fate:
-        """Calls an order until it has its fate. Raises as `give`."""
+        """Calls an order until it has its fate. Raises as `give`; InvalidArgument if it is no order of this store, or was
+        undone by a set back."""
         self._book.take_all(self._told)
         end = None if timeout is None else time.monotonic() + timeout
         wait = _Backoff(*self._waits)
-        while (fate := self._book.fate(order.uid)) is None:
+        while (fate := self._book.fate(order)) is None:
             self._check()
             self._step(order.lane)
-            if self._book.fate(order.uid) is None:
+            if self._book.fate(order) is None:
                 if self._book.is_stopped:
                     continue
                 self._pause(wait.again(), end, order)
+        self._book.write()
         self._told.append(order.uid)
         return fate
 
@@ -861,14 +892,14 @@ class AsyncOrders:
     ) -> None:
         """As `Orders`. `lanes`: how many orders are under way at most, 1 to 65,536, on lanes 0 and up."""
         self._sends, self._waits = sends, waits
-        self._book = _Book(store, lanes, once, keep)
         self._free = asyncio.Queue[int]()
-        for it in self._book.usable:
-            if self._book.order_of(it) is None:
-                self._free.put_nowait(it)
+        self._book = _Book(store, lanes, once, keep, self._free.put_nowait)
         self._thread = ThreadPoolExecutor(1, "deltat orders")
-        self._writing: asyncio.Task[None] | None = None
-        self._meeting = asyncio.Lock()
+        self._writing: asyncio.Future[None] | None = None
+        self._meeting, self._searching = asyncio.Lock(), asyncio.Lock()
+        # how many calls of orders wait for their end, and whether there are none
+        self._under_way, self._none_under_way = 0, asyncio.Event()
+        self._none_under_way.set()
         self._undone: list[Order] | None = None
         self._told: list[int] = []
 
@@ -895,15 +926,18 @@ class AsyncOrders:
         return self._book.orders()
 
     async def give(self, body: bytes) -> Fate:
-        """Gives an order, and returns its fate. Raises SetBack, NotStored."""
+        """Gives an order, and returns its fate. Raises SetBack, NotStored. If the wait is cancelled, or the wire raises,
+        an order that was noted stays in the store: `unsettled` has it, and it keeps its lane until it is settled."""
         return await self.settle(await self.note(body))
 
     async def note(self, body: bytes) -> Order:
-        """Notes an order when a lane is free: it is in the store then. Raises SetBack, NotStored."""
+        """Notes an order when a lane is free: it is in the store when this returns. Raises SetBack, NotStored. If the
+        wait is cancelled, either nothing was noted or `unsettled` has the order."""
         self._book.take_all(self._told)
         await self._meet()
         lane = await self._free.get()
         try:
+            self._book.check()
             await self._check()
             order = self._book.note(lane, body)
         except BaseException:
@@ -913,17 +947,16 @@ class AsyncOrders:
         return order
 
     async def settle(self, order: Order) -> Fate:
-        """Calls an order until it has its fate. Raises SetBack, NotStored."""
+        """Calls an order until it has its fate. Several tasks may settle one order. Raises SetBack, NotStored, and what
+        the wire raises; InvalidArgument if it is no order of this store, or was undone by a set back."""
         wait = _Backoff(*self._waits)
-        while (fate := self._book.fate(order.uid)) is None:
+        while (fate := self._book.fate(order)) is None:
             await self._check()
             await self._step(order.lane)
-            if self._book.fate(order.uid) is None and not self._book.is_stopped:
+            if self._book.fate(order) is None and not self._book.is_stopped:
                 await asyncio.sleep(wait.again())
         await self._written()
         self._told.append(order.uid)
-        if order.lane in self._book.usable:
-            self._free.put_nowait(order.lane)
         return fate
 
     def cancel(self, order: Order) -> None:
@@ -947,18 +980,23 @@ class AsyncOrders:
 
     async def adopt(self) -> None:
         """As `Orders.adopt`."""
-        if self._book.is_stopped:
-            undone = self._undone if self._undone is not None else await self._find_undone()
-            await self._written()
-            self._book.adopt(undone)
-            self._undone = None
+        async with self._searching:
+            if self._book.is_stopped:
+                undone = await self._found_undone()
+                await self._idle()
+                try:
+                    self._book.adopt(undone)
+                except BaseException as why:
+                    self._failed(why)
+                    raise
+                self._undone = None
 
     async def _check(self) -> None:
         if self._book.is_stopped:
-            await self._written()
-            if self._undone is None:
-                self._undone = await self._find_undone()
-            raise SetBack(self._undone)
+            # (one task searches; an alarm that was adopted meanwhile is over)
+            async with self._searching:
+                if self._book.is_stopped:
+                    raise SetBack(await self._found_undone())
 
     async def _meet(self) -> None:
         async with self._meeting:
@@ -978,31 +1016,65 @@ class AsyncOrders:
         if request is None:
             return
         book.made(lane, True)
+        self._under_way += 1
+        self._none_under_way.clear()
         try:
-            octets = await self._sends(request)
+            book.heard(lane, await self._sends(request))
         except BaseException as why:
             # (a call that was declined is taken as one that may have been sent: `once` isn't used then)
             book.unsure(lane)
             if not isinstance(why, (Unsure, Declined)):
                 raise
-            return
-        book.heard(lane, octets)
+        finally:
+            self._under_way -= 1
+            if not self._under_way:
+                self._none_under_way.set()
 
     async def _written(self) -> None:
         """Returns when all that is appended now is durable: what waits meanwhile is one sync."""
         last = self._book.appended
         while self._book.written < last:
-            if self._writing is None:
-                self._writing = asyncio.get_running_loop().create_task(self._write())
+            self._book.check()
+            await asyncio.shield(self._writing or self._write())
+
+    def _failed(self, why: BaseException) -> None:
+        """A write failed. Orders that wait for a lane wait no more: each takes this number, finds that and puts it
+        back."""
+        self._book.fail(why)
+        self._free.put_nowait(-1)
+
+    async def _idle(self) -> None:
+        """Returns when no thread uses the store."""
+        while self._writing:
             await asyncio.shield(self._writing)
 
-    async def _write(self) -> None:
-        try:
-            records, last = self._book.take_unwritten()
-            await asyncio.get_running_loop().run_in_executor(self._thread, self._book.store.write, records)
-            self._book.written = last
-        finally:
+    def _write(self) -> asyncio.Future[None]:
+        """Begins to write what is appended, and returns its end. It is no task, so that nothing cancels it."""
+        records, last = self._book.take_unwritten()
+        loop = asyncio.get_running_loop()
+        self._writing = end = loop.create_future()
+
+        def ended(writing: asyncio.Future[None]) -> None:
             self._writing = None
+            why = asyncio.CancelledError("stopped") if writing.cancelled() else writing.exception()
+            if why is None:
+                self._book.written = last
+            else:
+                self._failed(why)
+            # (all that wait look again)
+            end.set_result(None)
+
+        loop.run_in_executor(self._thread, self._book.store.write, records).add_done_callback(ended)
+        return end
+
+    async def _found_undone(self) -> list[Order]:
+        """The orders that are undone. Calls that are under way end before: one may bring a fate of before the set
+        back."""
+        await self._none_under_way.wait()
+        await self._written()
+        if self._undone is None:
+            self._undone = await self._find_undone()
+        return self._undone
 
     async def _find_undone(self) -> list[Order]:
         search, wait = _Halving(self._book.done()), _Backoff(*self._waits)
