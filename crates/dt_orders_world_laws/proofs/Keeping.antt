@@ -147,7 +147,7 @@ module _ (notes : List Note) (past : List Store) (sent : List Sent) where
   ended_above : (last above : ℕ) (o : Order) → top_of last (Some o) ≤ max (max last o.number) above
   ended_above last above o = omega arith
 
-  above_ended : (p : Process) (lane above : ℕ) (o : Order) → (p.lanes lane).order ≡ Some o → top (p.lanes lane) ≤ top (lane_ended (p.lanes lane) o above)
+  pub above_ended : (p : Process) (lane above : ℕ) (o : Order) → (p.lanes lane).order ≡ Some o → top (p.lanes lane) ≤ top (lane_ended (p.lanes lane) o above)
   above_ended p lane above o e = subst (λ (x : Option Order). top_of (p.lanes lane).last x ≤ max (max (p.lanes lane).last o.number) above) (sym e) (ended_above (p.lanes lane).last above o)
 
   cancelled_fresh : (p : Process) (lane : ℕ) (o : Order) (t : Bool) → (p.lanes lane).order ≡ Some o → Is p → (let left : Left = (if t then record { lane = lane_ended (p.lanes lane) o 0; fate = Some fate.Never } else record { lane = record (p.lanes lane) { is_cancelled = true }; fate = None }) in Is (left_on p lane left.lane (ended_by left.fate (Some o) lane (p.number + 1) [] None)))
@@ -189,7 +189,7 @@ module _ (notes : List Note) (past : List Store) (sent : List Sent) where
     was_heard = record { store = reply.store; there = reply.there; is = reply.is }
 
     -- the answer is of the call that waits
-    its_call : is_same_attempt c.attempt r.answer.attempt ≡ true → r.call ≡ record { lane = lane; called = c }
+    pub its_call : is_same_attempt c.attempt r.answer.attempt ≡ true → r.call ≡ record { lane = lane; called = c }
     its_call same =
         let mine : Among (record { lane = lane; called = c }) sent = subst (λ (x : Option Called). IsMade sent lane x) waiting (holds.waits lane) in
         alone r.call (record { lane = lane; called = c }) reply.call mine (sym (attempt_is c.attempt r.answer.attempt same ∙ reply.attempt))
@@ -204,7 +204,7 @@ module _ (notes : List Note) (past : List Store) (sent : List Sent) where
     listener_is = waits_is (record p { client = its_client }) lane None (knows_is p its_client holds (newer_is p.client.known r.answer.heard holds.mind.known was_heard) holds.stopped refl holds.once) tt
 
     -- the name of the order that the call is of
-    its_name : (o : Order) → is_same_attempt c.attempt r.answer.attempt ≡ true → is_of (Some o) c ≡ true → name_of r.call ≡ name_on lane o
+    pub its_name : (o : Order) → is_same_attempt c.attempt r.answer.attempt ≡ true → is_of (Some o) c ≡ true → name_of r.call ≡ name_on lane o
     its_name o same of =
         let call = ap name_of (its_call same) in
         let number : c.number ≡ o.number = grind (arith, nat_tests) in
@@ -235,15 +235,15 @@ module _ (notes : List Note) (past : List Store) (sent : List Sent) where
     used_case false None is of same = left_is listener lane (lane_unsure (p.lanes lane)) None listener_is (holds.mind.orders lane) (omega arith) tt
     used_case false (Some o) is of same = left_is listener lane (lane_unsure (p.lanes lane)) None listener_is (holds.mind.orders lane) (omega arith) tt
 
-    not_once : (only once : Bool) → once ≡ false → false ≡ (only && once)
+    pub not_once : (only once : Bool) → once ≡ false → false ≡ (only && once)
     not_once true once e = sym e
     not_once false once e = refl
 
-    abbrev IsUsed : Hearing → Type 0
+    abbrev pub IsUsed : Hearing → Type 0
     IsUsed hearing.Used = Unit {0}
     IsUsed _ = ⊥
 
-    used_same : (t : Bool) (x : Hearing) → (if not t then hearing.Strange else x) ≡ hearing.Used → t ≡ true
+    pub used_same : (t : Bool) (x : Hearing) → (if not t then hearing.Strange else x) ≡ hearing.Used → t ≡ true
     used_same true x e = refl
     used_same false x e = let it : IsUsed hearing.Strange = subst IsUsed (sym e) tt in absurd it
 

@@ -3,4 +3,10 @@ pub mod Holding
 pub mod Serving
 pub mod Keeping
 pub mod Stepping
+pub mod Orderly
+pub mod Firm
+pub mod Good
+pub mod Staying
+pub mod Acting
+pub mod Called
 pub mod Ends

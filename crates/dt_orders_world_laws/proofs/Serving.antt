@@ -11,7 +11,7 @@ use Rattle.dt_orders_model.specs.Fates.{WasExecuted, WasWithdrawn}
 use Rattle.dt_orders_model.specs.Histories.{Commits, Goes, IsDrawnAnew, Note, Reached, World, asked_of, commit, commits, goes, known_or, noted, verdict_at}
 use Rattle.dt_orders_model.specs.Histories as history
 use Rattle.dt_orders_model.specs.Judging.{is_ask, is_forked, is_met, judged_by}
-use Rattle.dt_orders_model.specs.Stores.{Among, Entry, Name, Store, Withdrawn, executed, heard, is_same, place_of, reopened, row_of, shared, touched, withdrawn}
+use Rattle.dt_orders_model.specs.Stores.{Among, Entry, Name, Store, Withdrawn, begun, executed, heard, is_same, place_of, reopened, row_of, shared, touched, withdrawn}
 use Rattle.dt_orders_laws.proofs.Closed.{closed_by_itself}
 use Rattle.dt_orders_laws.proofs.Ends.{done_of_execution, done_of_row, never_of_row}
 use Rattle.dt_orders_laws.proofs.Lists.{at_put, either_of}
@@ -48,6 +48,12 @@ of_order strict s c v none e = by (is_ask c.called.kind) refl
     by true is = absurd (none (asked_by (is_forked c.called.knows (place_of (known_or c.called.since c.called.knows) s)) (is_ask c.called.kind) (if strict && not (is_met s.opening.nonce c.called.knows) then verdict.Hello else judged_by s.horizon (row_of (s.rows c.lane)) (asked_of (call_as c)) (shared c.called.since s)) v is e))
     by false is = is
 
+-- A STORE AND THE NEXT ONE of its opening, or the same
+pub record Next (s t : Store) : Type 0 where
+  pub opening : t.opening ≡ s.opening
+  pub older : t.older ≡ s.older
+  pub clock : (t.clock ≡ s.clock) ⊎ (t.clock ≡ s.clock + 1)
+
 -- WHAT HANDLING DOES to the server's history
 pub record Handled (w v : World) (s : Sent) (said : Word) (result : List ℕ) : Type 0 where
   pub reached : Reached v
@@ -55,19 +61,21 @@ pub record Handled (w v : World) (s : Sent) (said : Word) (result : List ℕ) : 
   pub notes : AreAmong w.notes v.notes
   pub names : (n : Note) → Among n v.notes → (m : Note) × Among m w.notes × (m.name ≡ n.name)
   pub here : Among v.present v.past
+  pub next : Next w.present v.present
   pub says : (heard_at : Known) (value : ℕ) (before : List Sent) → SaysTrue v.notes v.present (reply_to s heard_at said value result before) said
 
 module _ (strict : Bool) (w : World) (s : Sent) (r : Reached w) (noted_call : is_ask s.called.kind ≡ false → Among (note_of s) w.notes) where
   abbrev Says : Word → World → List ℕ → Type 0
   Says said v result = (heard_at : Known) (value : ℕ) (before : List Sent) → SaysTrue v.notes v.present (reply_to s heard_at said value result before) said
 
-  by_commit : (x : Store) (said : Word) (result : List ℕ) → Commits w x → Says said (commit w x) result → Handled w (commit w x) s said result
-  by_commit x said result c truth = record {
+  by_commit : (x : Store) (said : Word) (result : List ℕ) → Next w.present x → Commits w x → Says said (commit w x) result → Handled w (commit w x) s said result
+  by_commit x said result next c truth = record {
     reached = goes (commit w x) r (commits x c);
     past = λ y m. inr m;
     notes = λ n m. m;
     names = λ n m. (n, m, refl);
     here = inl refl;
+    next = next;
     says = truth;
   }
 
@@ -78,6 +86,7 @@ module _ (strict : Bool) (w : World) (s : Sent) (r : Reached w) (noted_call : is
     notes = λ n m. m;
     names = λ n m. (n, m, refl);
     here = (lawful_of w r).here;
+    next = record { opening = refl; older = refl; clock = inl refl };
     says = truth;
   }
 
@@ -117,10 +126,10 @@ module _ (strict : Bool) (w : World) (s : Sent) (r : Reached w) (noted_call : is
   pub handling : (v : World) (said : Word) (result : List ℕ) → Handles strict w s v said result → Handled w v s said result
   handling v said result (executes x e) =
       let m = note_then verdict.Execute (λ h. h) e in
-      by_commit (executed w.present (name_of s) x) word.Done x (history.executes strict (call_as s) x m e) (λ h value before. done_of_execution w strict (call_as s) x r m e)
+      by_commit (executed w.present (name_of s) x) word.Done x (record { opening = refl; older = refl; clock = inr refl }) (history.executes strict (call_as s) x m e) (λ h value before. done_of_execution w strict (call_as s) x r m e)
   handling v said result (begins e) =
       let m = note_then verdict.Execute (λ h. h) e in
-      by_commit _ word.AtWork [] (history.begins strict (call_as s) m e) (λ h value before. tt)
+      by_commit (begun w.present (name_of s)) word.AtWork [] (record { opening = refl; older = refl; clock = inr refl }) (history.begins strict (call_as s) m e) (λ h value before. tt)
   handling v said result (fails e) =
       let m = note_then verdict.Execute (λ h. h) e in
       record {
@@ -129,14 +138,15 @@ module _ (strict : Bool) (w : World) (s : Sent) (r : Reached w) (noted_call : is
         notes = λ n x. inr x;
         names = either_of (λ n. (x : Note) × Among x w.notes × (x.name ≡ n.name)) (record { name = name_of s; since = heard w.present }) w.notes (note_of s, m, refl) (λ n x. (n, x, refl));
         here = (lawful_of w r).here;
+        next = record { opening = refl; older = refl; clock = inl refl };
         says = λ h value before. inl refl;
       }
   handling v said result (cancels e) =
       let m = note_then verdict.Cancel (λ h. h) e in
-      by_commit (withdrawn w.present (name_of s)) word.Never [] (history.cancels strict (call_as s) m e) (λ h value before. record { stamp = w.present.clock + 1; there = inl refl })
+      by_commit (withdrawn w.present (name_of s)) word.Never [] (record { opening = refl; older = refl; clock = inr refl }) (history.cancels strict (call_as s) m e) (λ h value before. record { stamp = w.present.clock + 1; there = inl refl })
   handling v said result (touches entry is e) =
       let m = note_then verdict.Touch (λ h. h) e in
-      by_commit (touched w.present s.lane entry) word.Stale [] (history.touches strict (call_as s) entry m e is) (λ h value before. closed_touched entry is e)
+      by_commit (touched w.present s.lane entry) word.Stale [] (record { opening = refl; older = refl; clock = inr refl }) (history.touches strict (call_as s) entry m e is) (λ h value before. closed_touched entry is e)
   handling v said result (answers entry is e) = by_itself word.Done entry.result (λ h value before. answered entry is e)
   handling v said result (says x y e is) = by_itself y [] (said_by x y e is)
 

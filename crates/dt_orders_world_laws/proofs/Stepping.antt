@@ -30,7 +30,7 @@ use Rattle.dt_orders_world_laws.proofs.Serving.{handled_holds, left_holds, opene
 nonces_same : (clients : ℕ → Process) (i : ℕ) (p : Process) → p.nonces ≡ (clients i).nonces → (j : ℕ) → (put_at clients i p j).nonces ≡ (clients j).nonces
 nonces_same clients i p e = at_put_at (λ j x. x.nonces ≡ (clients j).nonces) clients i p e (λ j other. refl)
 
-of_same : (clients : ℕ → Process) (i : ℕ) (p : Process) → p.nonces ≡ (clients i).nonces → (nonce : ℕ) → IsOf clients nonce → IsOf (put_at clients i p) nonce
+pub of_same : (clients : ℕ → Process) (i : ℕ) (p : Process) → p.nonces ≡ (clients i).nonces → (nonce : ℕ) → IsOf clients nonce → IsOf (put_at clients i p) nonce
 of_same clients i p e nonce o = record { client = o.client; there = subst (λ (x : List ℕ). Among nonce x) (sym (nonces_same clients i p e o.client)) o.there }
 
 apart_same : (clients : ℕ → Process) (i : ℕ) (p : Process) → p.nonces ≡ (clients i).nonces → ((a b nonce : ℕ) → Among nonce (clients a).nonces → Among nonce (clients b).nonces → a ≡ b) → (a b nonce : ℕ) → Among nonce (put_at clients i p a).nonces → Among nonce (put_at clients i p b).nonces → a ≡ b
@@ -235,16 +235,16 @@ module _ (w : Both) (i lane uid : ℕ) (h : Holds w) (q : Known) (knows : (w.cli
   abbrev p : Process
   p = w.clients i
 
-  abbrev given : Lane
+  abbrev pub given : Lane
   given = lane_noted (p.lanes lane) uid p.client.nonce q (p.number + 1)
 
-  abbrev note : Note
+  abbrev pub note : Note
   note = record { name = record { lane = lane; number = (p.lanes lane).last + 1; tag = p.client.nonce }; since = q }
 
   its_last : top (p.lanes lane) ≡ (p.lanes lane).last
   its_last = ap (λ (x : Option Order). top_of (p.lanes lane).last x) free
 
-  fresh_by : (n : Note) → Among n w.server.notes → (t : Bool) → is_same n.name note.name ≡ t → is_same n.name note.name ≡ false
+  pub fresh_by : (n : Note) → Among n w.server.notes → (t : Bool) → is_same n.name note.name ≡ t → is_same n.name note.name ≡ false
   fresh_by n m false e = e
   fresh_by n m true e =
       let alike = alike_of n.name note.name e in
@@ -371,7 +371,7 @@ step_holds rules w v h (ends i lane) = client_moves w i _ h (ended_is w.server.n
 step_holds rules w v h (hears i lane c r m e) = client_moves w i _ h (heard_is w.server.notes w.server.past w.sent (w.clients i) lane c r (h.each i) (h.made r (h.left r m)) e h.alone) (nonces_heard (w.clients i) lane c r)
 step_holds rules w v h (cancels i lane) = client_moves w i _ h (cancelled_is w.server.notes w.server.past w.sent (w.clients i) lane (h.each i)) (nonces_cancelled (w.clients i) lane)
 step_holds rules w v h (adopts i all) = client_moves w i _ h (adopted_is w.server.notes w.server.past w.sent (w.clients i) (h.each i)) refl
-step_holds rules w v h (stores i stored kept some least) = client_moves w i _ h (stored_is w.server.notes w.server.past w.sent (w.clients i) stored kept (h.each i) some) refl
+step_holds rules w v h (stores i stored kept within some least) = client_moves w i _ h (stored_is w.server.notes w.server.past w.sent (w.clients i) stored kept (h.each i) some) refl
 step_holds rules w v h (tells i e m is) = record {
   reached = h.reached;
   alive = h.alive;

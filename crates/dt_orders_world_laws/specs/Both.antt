@@ -88,7 +88,7 @@ pub data Step (rules : Rules) (w : Both) : Both → Type 0 where
   cancels : (i lane : ℕ) → Step rules w (with_client w i (cancelled_on (w.clients i) lane))
   adopts : (i : ℕ) → AllStored (w.clients i) → Step rules w (with_client w i (adopted_on (w.clients i)))
   -- a client's store is synced up to a record
-  stores : (i stored : ℕ) (kept : List Kept) → AreAmong kept (w.clients i).alive → ((k : Kept) → Among k kept → stored ≤ k.number) → Step rules w (with_client w i (record (w.clients i) { stored = stored; alive = kept }))
+  stores : (i stored : ℕ) (kept : List Kept) → stored ≤ (w.clients i).number → AreAmong kept (w.clients i).alive → ((k : Kept) → Among k kept → stored ≤ k.number) → Step rules w (with_client w i (record (w.clients i) { stored = stored; alive = kept }))
   -- a fate is reported once it is stored
   tells : (i : ℕ) (e : Ended) → Among e (w.clients i).fates → e.record_number ≤ (w.clients i).stored → Step rules w (record w { told = record { client = i; ended = e } ∷ w.told })
   -- a client dies or loses power, and starts again

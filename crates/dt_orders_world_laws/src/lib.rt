@@ -1,6 +1,10 @@
-//! Laws of orders at both ends together, over any wire and any crash.
+//! Laws of orders at both ends together: a server, its clients and the wire between them, over any loss, repeat
+//! and reordering, any crash of either end, and set backs of their stores.
 #![tactic(auto)]
 
 mod laws;
 
-pub use laws::each_order_is_executed_once_at_most;
+pub use laws::{
+    done_means_executed_once_with_this_result, each_order_is_executed_once_at_most,
+    never_is_now_and_ever, one_fate, only_what_was_called_is_executed, unknown_is_settled,
+};
