@@ -18,7 +18,7 @@ use Rattle.dt_orders_world_laws.specs.Clients.{Ended}
 use Rattle.dt_orders_world_laws.specs.Wires.{Sent, call_as, name_of}
 use Rattle.dt_orders_world_laws.proofs.Acting.{AreKept, stays_of}
 use Rattle.dt_orders_world_laws.proofs.Called.{uncalled_is_not_executed}
-use Rattle.dt_orders_world_laws.proofs.Good.{Sealed, SealedAs}
+use Rattle.dt_orders_world_laws.proofs.Staying.{Sealed, SealedAs}
 use Rattle.dt_orders_world_laws.proofs.Holding.{DoneAt, FateIs}
 use Rattle.dt_orders_world_laws.proofs.Orderly.{IsCallOf}
 use Rattle.dt_orders_world_laws.proofs.Serving.{of_order}

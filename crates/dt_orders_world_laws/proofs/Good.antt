@@ -1,4 +1,4 @@
--- A client whose server keeps what it synced: what its fates say is so at each store that a crash may leave.
+-- A client that is in order, whatever is held of the commits that it goes by and of its fates.
 use Rattle.std.proofs.Common.{◌≡◌, ◌≢◌, ◌+◌, ◌≤◌, ◌<◌, ◌∙◌, ℕ, List, [], ◌∷◌, Bool, true, false, ◌⊎◌, inl, inr, ap, sym, subst, arith, refl}
 use Rattle.std.specs.Prelude.{◌==◌, ◌&&◌, nat_le, not, if◌then◌else◌, Option, Some, None}
 use Rattle.dt_orders_model.specs.declared.knowledge.Known.{Known}
@@ -27,30 +27,22 @@ use Rattle.dt_orders_world_laws.proofs.Holding.{IsClient, IsGiven}
 use Rattle.dt_orders_world_laws.proofs.Orderly.{IsCallOf, NamedBy, OrderOk, Orderly, fate_in, free_in, knows_in, lane_in, opened_in, recorded_in, same_in, stored_in, waits_in}
 use Rattle.dt_orders_world_laws.proofs.Puts.{apart, at_put, at_put_at, none_is, put_here, some_is}
 
-abbrev pub MayFirm : List Store → Option Known → Type 0
-MayFirm alive None = Unit {0}
-MayFirm alive (Some q) = IsFirm q alive
+abbrev pub MayBe : (Known → Type 0) → Option Known → Type 0
+MayBe F None = Unit {0}
+MayBe F (Some q) = F q
 
--- what is known, and what orders name, is lost by no crash
-pub record FirmMind (alive : List Store) (q : Option Known) (lanes : ℕ → Lane) : Type 0 where
-  pub known : MayFirm alive q
-  pub orders : (lane : ℕ) (o : Order) → (lanes lane).order ≡ Some o → IsFirm o.since alive
+-- what is known, and what orders name
+pub record MindIs (F : Known → Type 0) (q : Option Known) (lanes : ℕ → Lane) : Type 0 where
+  pub known : MayBe F q
+  pub orders : (lane : ℕ) (o : Order) → (lanes lane).order ≡ Some o → F o.since
 
--- WHAT A FATE SAYS IS SO, and stays so
-abbrev pub SealedAs : List Store → List Sent → Ended → Fate → Type 0
-SealedAs alive sent e fate.Done = (s : Store) → Among s alive → WasExecuted s e.name e.result
-SealedAs alive sent e fate.Never = ((s : Store) → Among s alive → WasWithdrawn s e.name) ⊎ ((c : Sent) → Among c sent → IsCallOf c e.name → ⊥)
-SealedAs alive sent e fate.Unknown = (c : Sent) → Among c sent → IsCallOf c e.name → (s : Store) → Among s alive → IsClosed s.horizon (row_of (s.rows e.name.lane)) e.name.number c.called.since.clock
-
-abbrev pub Sealed : List Store → List Sent → Ended → Type 0
-Sealed alive sent e = SealedAs alive sent e e.fate
-
-pub record Good (notes : List Note) (sent : List Sent) (alive : List Store) (p : Process) : Type 0 where
-  pub orderly : Orderly notes sent p
-  pub mind : FirmMind alive p.client.known p.lanes
-  pub stopped : MayFirm alive p.client.stopped
-  pub store : (k : Kept) → Among k p.alive → FirmMind alive k.known k.lanes
-  pub sealed : (e : Ended) → Among e p.fates → Sealed alive sent e
+-- A GOOD CLIENT: it is in order, `F` holds of each commit that it goes by, and `S` of each fate that it wrote
+pub record Good (R : Sent → Known → Type 0) (F : Known → Type 0) (S : Ended → Type 0) (notes : List Note) (sent : List Sent) (p : Process) : Type 0 where
+  pub orderly : Orderly R notes sent p
+  pub mind : MindIs F p.client.known p.lanes
+  pub stopped : MayBe F p.client.stopped
+  pub store : (k : Kept) → Among k p.alive → MindIs F k.known k.lanes
+  pub sealed : (e : Ended) → Among e p.fates → S e
 
 -- a fate that was stored
 pub record IsToldBy (p : Process) (e : Ended) : Type 0 where
@@ -58,18 +50,18 @@ pub record IsToldBy (p : Process) (e : Ended) : Type 0 where
   pub kept : (k : Kept) → Among k p.alive → Among e k.fates
 
 -- A STEP of a client: it stays good, and what was stored stays stored
-pub record Steps (notes : List Note) (sent : List Sent) (alive : List Store) (p q : Process) : Type 0 where
-  pub good : Good notes sent alive q
+pub record Steps (R : Sent → Known → Type 0) (F : Known → Type 0) (S : Ended → Type 0) (notes : List Note) (sent : List Sent) (p q : Process) : Type 0 where
+  pub good : Good R F S notes sent q
   pub keeps : (e : Ended) → IsToldBy p e → IsToldBy q e
 
-module _ (notes : List Note) (sent : List Sent) (alive : List Store) where
+module _ (R : Sent → Known → Type 0) (F : Known → Type 0) (S : Ended → Type 0) (notes : List Note) (sent : List Sent) where
   abbrev Ok : Process → Type 0
-  Ok = Good notes sent alive
+  Ok = Good R F S notes sent
 
   pub same_ok : (p : Process) (lane : ℕ) (l : Lane) → Ok p → l.order ≡ (p.lanes lane).order → l.record_number ≡ (p.lanes lane).record_number → (l.is_fresh ≡ true → (p.lanes lane).is_fresh ≡ true) → Ok (with_lane p lane l)
   same_ok p lane l g order at fresh = record {
-    orderly = same_in notes sent p lane l g.orderly order at fresh;
-    mind = record { known = g.mind.known; orders = at_put (λ n x. (o : Order) → x.order ≡ Some o → IsFirm o.since alive) p.lanes lane l (λ o e. g.mind.orders lane o (sym order ∙ e)) g.mind.orders };
+    orderly = same_in R notes sent p lane l g.orderly order at fresh;
+    mind = record { known = g.mind.known; orders = at_put (λ n x. (o : Order) → x.order ≡ Some o → F o.since) p.lanes lane l (λ o e. g.mind.orders lane o (sym order ∙ e)) g.mind.orders };
     stopped = g.stopped;
     store = g.store;
     sealed = g.sealed;
@@ -77,16 +69,16 @@ module _ (notes : List Note) (sent : List Sent) (alive : List Store) where
 
   pub silent_ok : (p : Process) (lane : ℕ) → Ok p → Ok (record p { waits = put_at p.waits lane None })
   silent_ok p lane g = record {
-    orderly = waits_in notes sent p lane None g.orderly (λ o e c is. absurd (none_is c is));
+    orderly = waits_in R notes sent p lane None g.orderly (λ o e c is. absurd (none_is c is));
     mind = g.mind;
     stopped = g.stopped;
     store = g.store;
     sealed = g.sealed;
   }
 
-  pub knows_ok : (p : Process) (client : Client) → Ok p → MayFirm alive client.known → MayFirm alive client.stopped → Ok (record p { client = client })
+  pub knows_ok : (p : Process) (client : Client) → Ok p → MayBe F client.known → MayBe F client.stopped → Ok (record p { client = client })
   knows_ok p client g known stopped = record {
-    orderly = knows_in notes sent p client g.orderly;
+    orderly = knows_in R notes sent p client g.orderly;
     mind = record { known = known; orders = g.mind.orders };
     stopped = stopped;
     store = g.store;
@@ -95,10 +87,10 @@ module _ (notes : List Note) (sent : List Sent) (alive : List Store) where
 
   pub recorded_ok : (p : Process) → Ok p → Ok (recorded p)
   recorded_ok p g = record {
-    orderly = recorded_in notes sent p g.orderly;
+    orderly = recorded_in R notes sent p g.orderly;
     mind = g.mind;
     stopped = g.stopped;
-    store = either_of (λ k. FirmMind alive k.known k.lanes) (kept_of p) p.alive g.mind g.store;
+    store = either_of (λ k. MindIs F k.known k.lanes) (kept_of p) p.alive g.mind g.store;
     sealed = g.sealed;
   }
 
@@ -106,38 +98,38 @@ module _ (notes : List Note) (sent : List Sent) (alive : List Store) where
   ended_ok p lane g = silent_ok (with_lane p lane (lane_unsure (p.lanes lane))) lane (same_ok p lane (lane_unsure (p.lanes lane)) g refl refl (λ x. x))
 
   -- an order has its fate
-  pub finished_ok : (p : Process) (lane : ℕ) (l : Lane) (o : Order) (e : Ended) → Ok p → (p.lanes lane).order ≡ Some o → l.order ≡ None → e.name ≡ name_on lane o → e.record_number ≡ p.number + 1 → IsGiven notes lane (p.lanes lane).order → Sealed alive sent e → Ok (recorded (record p { lanes = put_at p.lanes lane l; fates = e ∷ p.fates }))
+  pub finished_ok : (p : Process) (lane : ℕ) (l : Lane) (o : Order) (e : Ended) → Ok p → (p.lanes lane).order ≡ Some o → l.order ≡ None → e.name ≡ name_on lane o → e.record_number ≡ p.number + 1 → IsGiven notes lane (p.lanes lane).order → S e → Ok (recorded (record p { lanes = put_at p.lanes lane l; fates = e ∷ p.fates }))
   finished_ok p lane l o e g is none name at given sealed =
       let x = g.orderly.lanes lane o is in
       let noted : IsGiven notes lane (Some o) = subst (λ (y : Option Order). IsGiven notes lane y) is given in
       recorded_ok (record p { lanes = put_at p.lanes lane l; fates = e ∷ p.fates }) (record {
-        orderly = fate_in notes sent (with_lane p lane l) e (free_in notes sent p lane l g.orderly none)
+        orderly = fate_in R notes sent (with_lane p lane l) e (free_in R notes sent p lane l g.orderly none)
             (at_put_at (λ n y. (z : Order) → y.order ≡ Some z → name_on n z ≢ e.name) p.lanes lane l (λ z f. absurd (none_is z (sym none ∙ f))) (λ n other z f same. other (ap (λ (m : Name). m.lane) (same ∙ name))))
             (λ f m same. x.over f m (sym name ∙ same))
             (record { note = record { name = name_on lane o; since = o.since }; there = noted; name = sym name; mine = subst (λ (m : Name). Among m.tag p.nonces) (sym name) x.mine }) at;
-        mind = record { known = g.mind.known; orders = at_put (λ n y. (z : Order) → y.order ≡ Some z → IsFirm z.since alive) p.lanes lane l (λ z f. absurd (none_is z (sym none ∙ f))) g.mind.orders };
+        mind = record { known = g.mind.known; orders = at_put (λ n y. (z : Order) → y.order ≡ Some z → F z.since) p.lanes lane l (λ z f. absurd (none_is z (sym none ∙ f))) g.mind.orders };
         stopped = g.stopped;
         store = g.store;
-        sealed = either_of (Sealed alive sent) e p.fates sealed g.sealed;
+        sealed = either_of S e p.fates sealed g.sealed;
       })
 
   -- an order goes on from a newer commit
-  pub renewed_ok : (p : Process) (lane : ℕ) (o : Order) (q : Known) → Ok p → (p.lanes lane).order ≡ Some o → p.waits lane ≡ None → o.since.clock ≤ q.clock → IsFirm q alive → Ok (with_lane p lane (lane_renewed (p.lanes lane) o q (p.number + 1)))
+  pub renewed_ok : (p : Process) (lane : ℕ) (o : Order) (q : Known) → Ok p → (p.lanes lane).order ≡ Some o → p.waits lane ≡ None → ((s : Sent) → Among s sent → IsCallOf s (name_on lane o) → R s q) → F q → Ok (with_lane p lane (lane_renewed (p.lanes lane) o q (p.number + 1)))
   renewed_ok p lane o q g is silent later firm =
       let l = lane_renewed (p.lanes lane) o q (p.number + 1) in
       let x = g.orderly.lanes lane o is in
       let newer_order : Order = record o { since = q } in
       record {
-        orderly = lane_in notes sent p lane l g.orderly (λ y e. let same : newer_order ≡ y = some_is newer_order y e in
-            subst (λ (z : Order). OrderOk sent p.fates p.alive p.nonces (p.waits lane) lane (p.number + 1) (p.lanes lane).is_fresh z) same (record {
+        orderly = lane_in R notes sent p lane l g.orderly (λ y e. let same : newer_order ≡ y = some_is newer_order y e in
+            subst (λ (z : Order). OrderOk R sent p.fates p.alive p.nonces (p.waits lane) lane (p.number + 1) (p.lanes lane).is_fresh z) same (record {
               over = x.over;
               kept = λ k m within. let most = (g.orderly.store k m).most in absurd (omega arith);
-              newest = λ s m call. let n = x.newest s m call in omega arith;
+              newest = later;
               waiting = λ c e of. absurd (none_is c (sym silent ∙ e));
               uncalled = x.uncalled;
               mine = x.mine;
             }));
-        mind = record { known = g.mind.known; orders = at_put (λ n y. (z : Order) → y.order ≡ Some z → IsFirm z.since alive) p.lanes lane l (λ z e. subst (λ (y : Order). IsFirm y.since alive) (some_is newer_order z e) firm) g.mind.orders };
+        mind = record { known = g.mind.known; orders = at_put (λ n y. (z : Order) → y.order ≡ Some z → F z.since) p.lanes lane l (λ z e. subst (λ (y : Order). F y.since) (some_is newer_order z e) firm) g.mind.orders };
         stopped = g.stopped;
         store = g.store;
         sealed = g.sealed;
@@ -146,13 +138,13 @@ module _ (notes : List Note) (sent : List Sent) (alive : List Store) where
   pub adopted_ok : (p : Process) → Ok p → Ok (adopted_on p)
   adopted_ok p g = recorded_ok (record p { client = adopted_by p.client.stopped p.client }) (by p.client.stopped g.stopped)
     where
-      by : (stopped : Option Known) → MayFirm alive stopped → Ok (record p { client = adopted_by stopped p.client })
+      by : (stopped : Option Known) → MayBe F stopped → Ok (record p { client = adopted_by stopped p.client })
       by None s = g
       by (Some q) s = knows_ok p (record p.client { known = Some q; stopped = None }) g s tt
 
   pub stored_ok : (p : Process) (stored : ℕ) (kept : List Kept) → Ok p → stored ≤ p.number → AreAmong kept p.alive → ((k : Kept) → Among k kept → stored ≤ k.number) → Ok (record p { stored = stored; alive = kept })
   stored_ok p stored kept g within some least = record {
-    orderly = stored_in notes sent p stored kept g.orderly within some least;
+    orderly = stored_in R notes sent p stored kept g.orderly within some least;
     mind = g.mind;
     stopped = g.stopped;
     store = λ k m. g.store k (some k m);
@@ -161,10 +153,10 @@ module _ (notes : List Note) (sent : List Sent) (alive : List Store) where
 
   pub opened_ok : (p : Process) (k : Kept) (nonce : ℕ) → Ok p → Among k p.alive → Ok (opened_on p k nonce)
   opened_ok p k nonce g m = record {
-    orderly = opened_in notes sent p k nonce g.orderly m;
+    orderly = opened_in R notes sent p k nonce g.orderly m;
     mind = record { known = (g.store k m).known; orders = (g.store k m).orders };
     stopped = tt;
-    store = either_of (λ z. FirmMind alive z.known z.lanes) k [] (g.store k m) (λ z n. elim n [ ]);
+    store = either_of (λ z. MindIs F z.known z.lanes) k [] (g.store k m) (λ z n. elim n [ ]);
     sealed = λ e n. g.sealed e ((g.orderly.store k m).less e n);
   }
 
@@ -187,40 +179,46 @@ module _ (notes : List Note) (sent : List Sent) (alive : List Store) where
   pub plain_ok : (p : Process) (lane : ℕ) (l : Lane) → Ok (with_lane p lane l) → Ok (left_on p lane l None)
   plain_ok p lane l g = if_ok (l.record_number == p.number + 1) (with_lane p lane l) g
 
-  -- A CANCEL
-  cancelled_fresh : (p : Process) (lane : ℕ) (o : Order) (t : Bool) → (p.lanes lane).is_fresh ≡ t → (p.lanes lane).order ≡ Some o → IsGiven notes lane (p.lanes lane).order → Ok p → (let left : Left = (if t then record { lane = lane_ended (p.lanes lane) o 0; fate = Some fate.Never } else record { lane = record (p.lanes lane) { is_cancelled = true }; fate = None }) in Ok (left_on p lane left.lane (ended_by left.fate (Some o) lane (p.number + 1) [] None)))
-  cancelled_fresh p lane o true fresh e given g = finished_ok p lane (lane_ended (p.lanes lane) o 0) o (record { name = name_on lane o; fate = fate.Never; result = []; heard = None; record_number = p.number + 1 }) g e refl refl refl given (inr ((g.orderly.lanes lane o e).uncalled fresh))
-  cancelled_fresh p lane o false fresh e given g = plain_ok p lane (record (p.lanes lane) { is_cancelled = true }) (same_ok p lane (record (p.lanes lane) { is_cancelled = true }) g refl refl (λ x. x))
+  -- A CANCEL: `S` holds of a cancelled order that nobody called
+  abbrev pub NeverCalled : Type 0
+  NeverCalled = (e : Ended) → e.fate ≡ fate.Never → e.heard ≡ None → ((c : Sent) → Among c sent → IsCallOf c e.name → ⊥) → S e
 
-  cancelled_case : (p : Process) (lane : ℕ) (o : Option Order) → (p.lanes lane).order ≡ o → IsGiven notes lane (p.lanes lane).order → Ok p → (let left = cancelled_by o (p.lanes lane) in Ok (left_on p lane left.lane (ended_by left.fate o lane (p.number + 1) [] None)))
-  cancelled_case p lane None e given g = plain_ok p lane (p.lanes lane) (same_ok p lane (p.lanes lane) g refl refl (λ x. x))
-  cancelled_case p lane (Some o) e given g = cancelled_fresh p lane o (p.lanes lane).is_fresh refl e given g
+  cancelled_fresh : (p : Process) (lane : ℕ) (o : Order) (t : Bool) → (p.lanes lane).is_fresh ≡ t → (p.lanes lane).order ≡ Some o → IsGiven notes lane (p.lanes lane).order → NeverCalled → Ok p → (let left : Left = (if t then record { lane = lane_ended (p.lanes lane) o 0; fate = Some fate.Never } else record { lane = record (p.lanes lane) { is_cancelled = true }; fate = None }) in Ok (left_on p lane left.lane (ended_by left.fate (Some o) lane (p.number + 1) [] None)))
+  cancelled_fresh p lane o true fresh e given never g = finished_ok p lane (lane_ended (p.lanes lane) o 0) o (record { name = name_on lane o; fate = fate.Never; result = []; heard = None; record_number = p.number + 1 }) g e refl refl refl given (never _ refl refl ((g.orderly.lanes lane o e).uncalled fresh))
+  cancelled_fresh p lane o false fresh e given never g = plain_ok p lane (record (p.lanes lane) { is_cancelled = true }) (same_ok p lane (record (p.lanes lane) { is_cancelled = true }) g refl refl (λ x. x))
 
-  pub cancelled_ok : (p : Process) (lane : ℕ) → IsGiven notes lane (p.lanes lane).order → Ok p → Ok (cancelled_on p lane)
-  cancelled_ok p lane given g = cancelled_case p lane (p.lanes lane).order refl given g
+  cancelled_case : (p : Process) (lane : ℕ) (o : Option Order) → (p.lanes lane).order ≡ o → IsGiven notes lane (p.lanes lane).order → NeverCalled → Ok p → (let left = cancelled_by o (p.lanes lane) in Ok (left_on p lane left.lane (ended_by left.fate o lane (p.number + 1) [] None)))
+  cancelled_case p lane None e given never g = plain_ok p lane (p.lanes lane) (same_ok p lane (p.lanes lane) g refl refl (λ x. x))
+  cancelled_case p lane (Some o) e given never g = cancelled_fresh p lane o (p.lanes lane).is_fresh refl e given never g
+
+  pub cancelled_ok : (p : Process) (lane : ℕ) → IsGiven notes lane (p.lanes lane).order → NeverCalled → Ok p → Ok (cancelled_on p lane)
+  cancelled_ok p lane given never g = cancelled_case p lane (p.lanes lane).order refl given never g
 
   -- AN ANSWER IS HEARD, whose word is so
-  newer_ok : (known : Option Known) (q : Known) → MayFirm alive known → IsFirm q alive → IsFirm (newer known q) alive
+  newer_ok : (known : Option Known) (q : Known) → MayBe F known → F q → F (newer known q)
   newer_ok None q k h = h
   newer_ok (Some known) q k h = by (is_same_opening known q && nat_le q.clock known.clock)
     where
-      by : (t : Bool) → IsFirm (if t then known else q) alive
+      by : (t : Bool) → F (if t then known else q)
       by true = k
       by false = h
 
   -- what an answer's word brings about, of an order with its name
-  abbrev pub Brings : Order → ℕ → Reply → Word → Type 0
-  Brings o lane r word.Done = (s : Store) → Among s alive → WasExecuted s (name_on lane o) r.result
-  Brings o lane r word.Never = (s : Store) → Among s alive → WasWithdrawn s (name_on lane o)
-  Brings o lane r word.NotNow = o.since.clock ≤ r.answer.heard.clock
-  Brings o lane r word.Old = (c : Sent) → Among c sent → IsCallOf c (name_on lane o) → (s : Store) → Among s alive → IsClosed s.horizon (row_of (s.rows lane)) o.number c.called.since.clock
-  Brings o lane r word.Stale = (c : Sent) → Among c sent → IsCallOf c (name_on lane o) → (s : Store) → Among s alive → IsClosed s.horizon (row_of (s.rows lane)) o.number c.called.since.clock
-  Brings o lane r word.AtWork = Unit {0}
-  Brings o lane r word.Forked = Unit {0}
-  Brings o lane r word.Hello = Unit {0}
-  Brings o lane r word.Told = Unit {0}
+  abbrev pub EndedBy : Order → (lane at : ℕ) → Reply → Fate → Ended
+  EndedBy o lane at r f = record { name = name_on lane o; fate = f; result = r.result; heard = Some r.answer.heard; record_number = at }
 
-  module _ (p : Process) (lane : ℕ) (c : Called) (r : Reply) (g : Ok p) (given : IsGiven notes lane (p.lanes lane).order) (firm : IsFirm r.answer.heard alive) (once : p.client.is_once ≡ false) (brings : (o : Order) → (p.lanes lane).order ≡ Some o → is_of (Some o) c ≡ true → is_same_attempt c.attempt r.answer.attempt ≡ true → Brings o lane r r.answer.word) where
+  abbrev pub Brings : Order → (lane at : ℕ) → Reply → Word → Type 0
+  Brings o lane at r word.Done = S (EndedBy o lane at r fate.Done)
+  Brings o lane at r word.Never = S (EndedBy o lane at r fate.Never)
+  Brings o lane at r word.NotNow = (s : Sent) → Among s sent → IsCallOf s (name_on lane o) → R s r.answer.heard
+  Brings o lane at r word.Old = S (EndedBy o lane at r fate.Unknown)
+  Brings o lane at r word.Stale = S (EndedBy o lane at r fate.Unknown)
+  Brings o lane at r word.AtWork = Unit {0}
+  Brings o lane at r word.Forked = Unit {0}
+  Brings o lane at r word.Hello = Unit {0}
+  Brings o lane at r word.Told = Unit {0}
+
+  module _ (p : Process) (lane : ℕ) (c : Called) (r : Reply) (g : Ok p) (given : IsGiven notes lane (p.lanes lane).order) (firm : F r.answer.heard) (once : p.client.is_once ≡ false) (brings : (o : Order) → (p.lanes lane).order ≡ Some o → is_of (Some o) c ≡ true → is_same_attempt c.attempt r.answer.attempt ≡ true → hearing_of p.client.known c r.answer ≡ hearing.Used → Brings o lane (p.number + 1) r r.answer.word) where
     abbrev listener : Process
     listener = record p { client = known_after p.client hearing.Used r.answer; waits = put_at p.waits lane None }
 
@@ -233,15 +231,15 @@ module _ (notes : List Note) (sent : List Sent) (alive : List Store) where
     abbrev LeftBy : Option Order → Lane → Option Fate → Type 0
     LeftBy o l f = Ok (left_on listener lane l (ended_by f o lane (p.number + 1) r.result (Some r.answer.heard)))
 
-    ends_with : (o : Order) (above : ℕ) (f : Fate) → (p.lanes lane).order ≡ Some o → SealedAs alive sent (record { name = name_on lane o; fate = f; result = r.result; heard = Some r.answer.heard; record_number = p.number + 1 }) f → LeftBy (Some o) (lane_ended (p.lanes lane) o above) (Some f)
-    ends_with o above f is sealed = finished_ok listener lane (lane_ended (p.lanes lane) o above) o (record { name = name_on lane o; fate = f; result = r.result; heard = Some r.answer.heard; record_number = p.number + 1 }) listener_ok is refl refl refl given sealed
+    ends_with : (o : Order) (above : ℕ) (f : Fate) → (p.lanes lane).order ≡ Some o → S (EndedBy o lane (p.number + 1) r f) → LeftBy (Some o) (lane_ended (p.lanes lane) o above) (Some f)
+    ends_with o above f is sealed = finished_ok listener lane (lane_ended (p.lanes lane) o above) o (EndedBy o lane (p.number + 1) r f) listener_ok is refl refl refl given sealed
 
     waits_with : (o : Option Order) → LeftBy o (lane_unsure (p.lanes lane)) None
     waits_with o = plain_ok listener lane (lane_unsure (p.lanes lane)) (same_ok listener lane (lane_unsure (p.lanes lane)) listener_ok refl refl (λ x. x))
 
-    used_word : (o : Order) (w : Word) → (p.lanes lane).order ≡ Some o → Brings o lane r w → LeftBy (Some o) (lane_by (effect_of w false) p.client.nonce (p.lanes lane) o (record r.answer { word = w }) (p.number + 1)) (fate_by (effect_of w false))
+    used_word : (o : Order) (w : Word) → (p.lanes lane).order ≡ Some o → Brings o lane (p.number + 1) r w → LeftBy (Some o) (lane_by (effect_of w false) p.client.nonce (p.lanes lane) o (record r.answer { word = w }) (p.number + 1)) (fate_by (effect_of w false))
     used_word o word.Done is b = ends_with o 0 fate.Done is b
-    used_word o word.Never is b = ends_with o 0 fate.Never is (inl b)
+    used_word o word.Never is b = ends_with o 0 fate.Never is b
     used_word o word.Old is b = ends_with o 0 fate.Unknown is b
     used_word o word.Stale is b = ends_with o r.answer.value fate.Unknown is b
     used_word o word.NotNow is b = plain_ok listener lane (lane_renewed (p.lanes lane) o r.answer.heard (p.number + 1)) (renewed_ok listener lane o r.answer.heard listener_ok is silent b firm)
@@ -250,11 +248,11 @@ module _ (notes : List Note) (sent : List Sent) (alive : List Store) where
     used_word o word.Hello is b = waits_with (Some o)
     used_word o word.Told is b = waits_with (Some o)
 
-    used_case : (t : Bool) (o : Option Order) → (p.lanes lane).order ≡ o → is_of o c ≡ t → is_same_attempt c.attempt r.answer.attempt ≡ true → (let left = left_by t o p.client.nonce (p.lanes lane) (effect_of r.answer.word false) r.answer (p.number + 1) in LeftBy o left.lane left.fate)
-    used_case true (Some o) is of same = used_word o r.answer.word is (brings o is of same)
-    used_case true None is of same = waits_with None
-    used_case false None is of same = waits_with None
-    used_case false (Some o) is of same = waits_with (Some o)
+    used_case : (t : Bool) (o : Option Order) → (p.lanes lane).order ≡ o → is_of o c ≡ t → is_same_attempt c.attempt r.answer.attempt ≡ true → hearing_of p.client.known c r.answer ≡ hearing.Used → (let left = left_by t o p.client.nonce (p.lanes lane) (effect_of r.answer.word false) r.answer (p.number + 1) in LeftBy o left.lane left.fate)
+    used_case true (Some o) is of same used = used_word o r.answer.word is (brings o is of same used)
+    used_case true None is of same used = waits_with None
+    used_case false None is of same used = waits_with None
+    used_case false (Some o) is of same used = waits_with (Some o)
 
     not_once : (only one : Bool) → one ≡ false → false ≡ (only && one)
     not_once true one e = sym e
@@ -268,15 +266,15 @@ module _ (notes : List Note) (sent : List Sent) (alive : List Store) where
     used_same true x e = refl
     used_same false x e = let it : IsUsed hearing.Strange = subst IsUsed (sym e) tt in absurd it
 
-    heard_case : (h : Hearing) → hearing_of p.client.known c r.answer ≡ h → Steps notes sent alive p (heard_as h p lane c r)
+    heard_case : (h : Hearing) → hearing_of p.client.known c r.answer ≡ h → Steps R F S notes sent p (heard_as h p lane c r)
     heard_case hearing.Strange e = record { good = ended_ok p lane g; keeps = λ f t. record { there = t.there; kept = t.kept } }
     heard_case hearing.Unsure e = record { good = ended_ok p lane g; keeps = λ f t. record { there = t.there; kept = t.kept } }
     heard_case hearing.Alarm e = record { good = knows_ok (ended_on p lane) (known_after p.client hearing.Alarm r.answer) (ended_ok p lane g) g.mind.known firm; keeps = λ f t. record { there = t.there; kept = t.kept } }
     heard_case hearing.Used e =
         let same = used_same (is_same_attempt c.attempt r.answer.attempt) (if is_fork r.answer.word then (if is_now p.client.known c.knows then hearing.Alarm else hearing.Unsure) else if is_usable p.client.known c.knows r.answer.heard then hearing.Used else hearing.Unsure) e in
         let good = subst (λ (x : Bool). let left = left_by (is_of (p.lanes lane).order c) (p.lanes lane).order p.client.nonce (p.lanes lane) (effect_of r.answer.word x) r.answer (p.number + 1) in LeftBy (p.lanes lane).order left.lane left.fate) (not_once c.is_only p.client.is_once once)
-            (used_case (is_of (p.lanes lane).order c) (p.lanes lane).order refl refl same) in
+            (used_case (is_of (p.lanes lane).order c) (p.lanes lane).order refl refl same e) in
         record { good = good; keeps = λ f t. told_left listener lane _ _ f (record { there = t.there; kept = t.kept }) }
 
-    pub heard_ok : Steps notes sent alive p (heard_on p lane c r)
+    pub heard_ok : Steps R F S notes sent p (heard_on p lane c r)
     heard_ok = heard_case (hearing_of p.client.known c r.answer) refl

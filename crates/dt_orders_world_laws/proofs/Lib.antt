@@ -6,7 +6,10 @@ pub mod Stepping
 pub mod Orderly
 pub mod Firm
 pub mod Good
+pub mod Asking
+pub mod Noting
 pub mod Staying
 pub mod Acting
 pub mod Called
 pub mod Ends
+pub mod Running

@@ -22,30 +22,34 @@ pub record IsCallOf (s : Sent) (o : Name) : Type 0 where
   pub kind : is_ask s.called.kind ≡ false
   pub name : name_of s ≡ o
 
--- AN ORDER OF A LANE, in memory
-pub record OrderOk (sent : List Sent) (fates : List Ended) (alive : List Kept) (nonces : List ℕ) (waits : Option Called) (lane at : ℕ) (fresh : Bool) (o : Order) : Type 0 where
+-- a call's since isn't newer, by its clock
+abbrev pub ByClock : Sent → Known → Type 0
+ByClock s q = s.called.since.clock ≤ q.clock
+
+-- AN ORDER OF A LANE, in memory. `R` says that a call's since isn't newer than the order's
+pub record OrderOk (R : Sent → Known → Type 0) (sent : List Sent) (fates : List Ended) (alive : List Kept) (nonces : List ℕ) (waits : Option Called) (lane at : ℕ) (fresh : Bool) (o : Order) : Type 0 where
   pub over : (e : Ended) → Among e fates → name_on lane o ≢ e.name
   pub kept : (k : Kept) → Among k alive → at ≤ k.number → (k.lanes lane).order ≡ Some o
-  pub newest : (s : Sent) → Among s sent → IsCallOf s (name_on lane o) → s.called.since.clock ≤ o.since.clock
+  pub newest : (s : Sent) → Among s sent → IsCallOf s (name_on lane o) → R s o.since
   pub waiting : (c : Called) → waits ≡ Some c → is_of (Some o) c ≡ true → c.since ≡ o.since
   pub uncalled : fresh ≡ true → (s : Sent) → Among s sent → IsCallOf s (name_on lane o) → ⊥
   pub mine : Among o.tag nonces
 
-abbrev pub LaneOk : List Sent → List Ended → List Kept → List ℕ → Option Called → ℕ → Lane → Type 0
-LaneOk sent fates alive nonces waits lane l = (o : Order) → l.order ≡ Some o → OrderOk sent fates alive nonces waits lane l.record_number l.is_fresh o
+abbrev pub LaneOk : (Sent → Known → Type 0) → List Sent → List Ended → List Kept → List ℕ → Option Called → ℕ → Lane → Type 0
+LaneOk R sent fates alive nonces waits lane l = (o : Order) → l.order ≡ Some o → OrderOk R sent fates alive nonces waits lane l.record_number l.is_fresh o
 
 -- an order of a lane, in the store
-pub record StoredOk (sent : List Sent) (fates : List Ended) (nonces : List ℕ) (lane : ℕ) (o : Order) : Type 0 where
+pub record StoredOk (R : Sent → Known → Type 0) (sent : List Sent) (fates : List Ended) (nonces : List ℕ) (lane : ℕ) (o : Order) : Type 0 where
   pub over : (e : Ended) → Among e fates → name_on lane o ≢ e.name
-  pub newest : (s : Sent) → Among s sent → IsCallOf s (name_on lane o) → s.called.since.clock ≤ o.since.clock
+  pub newest : (s : Sent) → Among s sent → IsCallOf s (name_on lane o) → R s o.since
   pub mine : Among o.tag nonces
 
-pub record KeptOk (sent : List Sent) (all : List Ended) (nonces : List ℕ) (stored last : ℕ) (k : Kept) : Type 0 where
+pub record KeptOk (R : Sent → Known → Type 0) (sent : List Sent) (all : List Ended) (nonces : List ℕ) (stored last : ℕ) (k : Kept) : Type 0 where
   pub least : stored ≤ k.number
   pub most : k.number ≤ last
   pub has : (e : Ended) → Among e all → e.record_number ≤ k.number → Among e k.fates
   pub less : AreAmong k.fates all
-  pub orders : (lane : ℕ) (o : Order) → (k.lanes lane).order ≡ Some o → StoredOk sent k.fates nonces lane o
+  pub orders : (lane : ℕ) (o : Order) → (k.lanes lane).order ≡ Some o → StoredOk R sent k.fates nonces lane o
 
 pub record NamedBy (notes : List Note) (nonces : List ℕ) (e : Ended) : Type 0 where
   pub note : Note
@@ -53,21 +57,21 @@ pub record NamedBy (notes : List Note) (nonces : List ℕ) (e : Ended) : Type 0 
   pub name : note.name ≡ e.name
   pub mine : Among e.name.tag nonces
 
-pub record Orderly (notes : List Note) (sent : List Sent) (p : Process) : Type 0 where
-  pub lanes : (lane : ℕ) → LaneOk sent p.fates p.alive p.nonces (p.waits lane) lane (p.lanes lane)
-  pub store : (k : Kept) → Among k p.alive → KeptOk sent p.fates p.nonces p.stored p.number k
+pub record Orderly (R : Sent → Known → Type 0) (notes : List Note) (sent : List Sent) (p : Process) : Type 0 where
+  pub lanes : (lane : ℕ) → LaneOk R sent p.fates p.alive p.nonces (p.waits lane) lane (p.lanes lane)
+  pub store : (k : Kept) → Among k p.alive → KeptOk R sent p.fates p.nonces p.stored p.number k
   pub once : (e f : Ended) → Among e p.fates → Among f p.fates → e.name ≡ f.name → e ≡ f
   pub named : (e : Ended) → Among e p.fates → NamedBy notes p.nonces e
   pub within : p.stored ≤ p.number
 
-module _ (notes : List Note) (sent : List Sent) where
+module _ (R : Sent → Known → Type 0) (notes : List Note) (sent : List Sent) where
   abbrev In : Process → Type 0
-  In = Orderly notes sent
+  In = Orderly R notes sent
 
   -- a lane is put
-  pub lane_in : (p : Process) (lane : ℕ) (l : Lane) → In p → LaneOk sent p.fates p.alive p.nonces (p.waits lane) lane l → In (with_lane p lane l)
+  pub lane_in : (p : Process) (lane : ℕ) (l : Lane) → In p → LaneOk R sent p.fates p.alive p.nonces (p.waits lane) lane l → In (with_lane p lane l)
   lane_in p lane l i ok = record {
-    lanes = at_put (λ n x. LaneOk sent p.fates p.alive p.nonces (p.waits n) n x) p.lanes lane l ok i.lanes;
+    lanes = at_put (λ n x. LaneOk R sent p.fates p.alive p.nonces (p.waits n) n x) p.lanes lane l ok i.lanes;
     store = i.store;
     once = i.once;
     named = i.named;
@@ -92,7 +96,7 @@ module _ (notes : List Note) (sent : List Sent) where
   -- another call waits, or none
   pub waits_in : (p : Process) (lane : ℕ) (called : Option Called) → In p → ((o : Order) → (p.lanes lane).order ≡ Some o → (c : Called) → called ≡ Some c → is_of (Some o) c ≡ true → c.since ≡ o.since) → In (record p { waits = put_at p.waits lane called })
   waits_in p lane called i ok = record {
-    lanes = at_put_at (λ n x. LaneOk sent p.fates p.alive p.nonces x n (p.lanes n)) p.waits lane called
+    lanes = at_put_at (λ n x. LaneOk R sent p.fates p.alive p.nonces x n (p.lanes n)) p.waits lane called
         (λ o e. let x = i.lanes lane o e in record { over = x.over; kept = x.kept; newest = x.newest; waiting = ok o e; uncalled = x.uncalled; mine = x.mine })
         (λ n other. i.lanes n);
     store = i.store;
@@ -115,7 +119,7 @@ module _ (notes : List Note) (sent : List Sent) where
       uncalled = x.uncalled;
       mine = x.mine;
     };
-    store = either_of (KeptOk sent p.fates p.nonces p.stored (p.number + 1)) (kept_of p) p.alive (record {
+    store = either_of (KeptOk R sent p.fates p.nonces p.stored (p.number + 1)) (kept_of p) p.alive (record {
       least = let w = i.within in omega arith;
       most = omega arith;
       has = λ e m within. m;
@@ -182,7 +186,7 @@ module _ (notes : List Note) (sent : List Sent) where
       uncalled = λ is. absurd (apart is refl);
       mine = inr y.mine;
     };
-    store = either_of (KeptOk sent k.fates (nonce ∷ p.nonces) k.number k.number) k [] (record {
+    store = either_of (KeptOk R sent k.fates (nonce ∷ p.nonces) k.number k.number) k [] (record {
       least = omega arith;
       most = omega arith;
       has = λ e n within. n;
@@ -195,12 +199,12 @@ module _ (notes : List Note) (sent : List Sent) where
   }
 
   -- A CALL MORE, of an order that has its since, or of none of its own
-  pub called_in : (s : Sent) (p : Process) → In p → ((lane : ℕ) (o : Order) → (p.lanes lane).order ≡ Some o → IsCallOf s (name_on lane o) → (s.called.since.clock ≤ o.since.clock) × ((p.lanes lane).is_fresh ≡ false)) → ((k : Kept) → Among k p.alive → (lane : ℕ) (o : Order) → (k.lanes lane).order ≡ Some o → IsCallOf s (name_on lane o) → s.called.since.clock ≤ o.since.clock) → Orderly notes (s ∷ sent) p
+  pub called_in : (s : Sent) (p : Process) → In p → ((lane : ℕ) (o : Order) → (p.lanes lane).order ≡ Some o → IsCallOf s (name_on lane o) → (R s o.since) × ((p.lanes lane).is_fresh ≡ false)) → ((k : Kept) → Among k p.alive → (lane : ℕ) (o : Order) → (k.lanes lane).order ≡ Some o → IsCallOf s (name_on lane o) → R s o.since) → Orderly R notes (s ∷ sent) p
   called_in s p i mine stored = record {
     lanes = λ lane o e. let x = i.lanes lane o e in record {
       over = x.over;
       kept = x.kept;
-      newest = either_of (λ y. IsCallOf y (name_on lane o) → y.called.since.clock ≤ o.since.clock) s sent (λ is. (mine lane o e is).0) x.newest;
+      newest = either_of (λ y. IsCallOf y (name_on lane o) → R y o.since) s sent (λ is. (mine lane o e is).0) x.newest;
       waiting = x.waiting;
       uncalled = λ fresh. either_of (λ y. IsCallOf y (name_on lane o) → ⊥) s sent (λ is. apart fresh (mine lane o e is).1) (x.uncalled fresh);
       mine = x.mine;
@@ -210,7 +214,7 @@ module _ (notes : List Note) (sent : List Sent) where
       most = x.most;
       has = x.has;
       less = x.less;
-      orders = λ lane o e. let y = x.orders lane o e in record { over = y.over; newest = either_of (λ z. IsCallOf z (name_on lane o) → z.called.since.clock ≤ o.since.clock) s sent (stored k m lane o e) y.newest; mine = y.mine };
+      orders = λ lane o e. let y = x.orders lane o e in record { over = y.over; newest = either_of (λ z. IsCallOf z (name_on lane o) → R z o.since) s sent (stored k m lane o e) y.newest; mine = y.mine };
     };
     once = i.once;
     named = i.named;
@@ -218,8 +222,8 @@ module _ (notes : List Note) (sent : List Sent) where
   }
 
 -- notes more
-pub orderly_more : (notes notes' : List Note) (sent : List Sent) (p : Process) → AreAmong notes notes' → Orderly notes sent p → Orderly notes' sent p
-orderly_more notes notes' sent p more i = record {
+pub orderly_more : (R : Sent → Known → Type 0) (notes notes' : List Note) (sent : List Sent) (p : Process) → AreAmong notes notes' → Orderly R notes sent p → Orderly R notes' sent p
+orderly_more R notes notes' sent p more i = record {
   lanes = i.lanes;
   store = i.store;
   once = i.once;

@@ -27,14 +27,31 @@ use Rattle.dt_orders_laws.proofs.Sound.{Sound}
 use Rattle.dt_orders_world_laws.specs.Both.{AreAmong, Both, IsFirm, MayAsk, Told, handled, makes, opened_server, with_client}
 use Rattle.dt_orders_world_laws.specs.Clients.{Ended, Kept, Process, asked_on, attempt_of, called_on, kept_of, name_on, noted_on, opened_on, put_at, question_of, recorded, with_lane}
 use Rattle.dt_orders_world_laws.specs.Wires.{Handles, Reply, Sent, Works, finishes, forgets, name_of, note_of, reply_to}
+use Rattle.dt_orders_world_laws.proofs.Asking.{asks_not}
 use Rattle.dt_orders_world_laws.proofs.Firm.{GoesOn, firm_on, on_below, on_itself, on_next, on_opened, on_shared}
-use Rattle.dt_orders_world_laws.proofs.Good.{Brings, FirmMind, Good, IsToldBy, MayFirm, Sealed, SealedAs, Steps, recorded_ok, same_ok}
+use Rattle.dt_orders_world_laws.proofs.Good.{Brings, Good, IsToldBy, MayBe, MindIs, Steps}
 use Rattle.dt_orders_world_laws.proofs.Holding.{Holds, IsGiven, IsReply, SaysTrue}
 use Rattle.dt_orders_world_laws.proofs.Keeping.{its_call, its_name}
-use Rattle.dt_orders_world_laws.proofs.Orderly.{IsCallOf, LaneOk, NamedBy, OrderOk, Orderly, called_in, lane_in, orderly_more, waits_in}
+use Rattle.dt_orders_world_laws.proofs.Orderly.{ByClock, IsCallOf, LaneOk, NamedBy, OrderOk, Orderly, called_in, lane_in, orderly_more, waits_in}
 use Rattle.dt_orders_world_laws.proofs.Puts.{apart, at_put, at_put_at, none_is, some_is}
 use Rattle.dt_orders_world_laws.proofs.Serving.{Next, handling, of_order}
 use Rattle.dt_orders_world_laws.proofs.Stepping.{call_is, fresh_by, gave_is, given, note}
+
+-- WHAT A FATE SAYS IS SO, and stays so, at each store that a crash may leave
+abbrev pub SealedAs : List Store → List Sent → Ended → Fate → Type 0
+SealedAs alive sent e fate.Done = (s : Store) → Among s alive → WasExecuted s e.name e.result
+SealedAs alive sent e fate.Never = ((s : Store) → Among s alive → WasWithdrawn s e.name) ⊎ ((c : Sent) → Among c sent → IsCallOf c e.name → ⊥)
+SealedAs alive sent e fate.Unknown = (c : Sent) → Among c sent → IsCallOf c e.name → (s : Store) → Among s alive → IsClosed s.horizon (row_of (s.rows e.name.lane)) e.name.number c.called.since.clock
+
+abbrev pub Sealed : List Store → List Sent → Ended → Type 0
+Sealed alive sent e = SealedAs alive sent e e.fate
+
+-- no crash loses the commit
+abbrev pub Firm : List Store → Known → Type 0
+Firm alive q = IsFirm q alive
+
+abbrev pub KeptGood : List Note → List Sent → List Store → Process → Type 0
+KeptGood notes sent alive p = Good ByClock (Firm alive) (Sealed alive sent) notes sent p
 
 -- WHAT AN ANSWER SAYS by clocks alone
 abbrev pub ClosedBy : Store → Sent → Word → Type 0
@@ -60,16 +77,16 @@ pub record Stays (w : Both) : Type 0 where
   pub calls : (s : Sent) → Among s w.sent → is_ask s.called.kind ≡ false → IsFirm s.called.since w.alive
   pub left : (r : Reply) → Among r w.left → IsFirm r.answer.heard w.alive
   pub made : (r : Reply) → Among r w.made → IsLater w.server.past r
-  pub each : (i : ℕ) → Good w.server.notes w.sent w.alive (w.clients i)
+  pub each : (i : ℕ) → KeptGood w.server.notes w.sent w.alive (w.clients i)
   pub told : (t : Told) → Among t w.told → IsToldBy (w.clients t.client) t.ended
 
 -- THE SERVER GOES ON
 module _ (notes notes' : List Note) (sent : List Sent) (alive alive' : List Store) (more : AreAmong notes notes') (each : (t : Store) → Among t alive' → GoesOn alive t) (sound : (s : Store) → Among s alive → Sound s) (sound' : (s : Store) → Among s alive' → Sound s) (firm : (s : Sent) → Among s sent → is_ask s.called.kind ≡ false → IsFirm s.called.since alive) where
-  may_firm : (q : Option Known) → MayFirm alive q → MayFirm alive' q
+  may_firm : (q : Option Known) → MayBe (Firm alive) q → MayBe (Firm alive') q
   may_firm None h = tt
   may_firm (Some q) h = firm_on alive alive' each q h
 
-  mind_later : (q : Option Known) (lanes : ℕ → Lane) → FirmMind alive q lanes → FirmMind alive' q lanes
+  mind_later : (q : Option Known) (lanes : ℕ → Lane) → MindIs (Firm alive) q lanes → MindIs (Firm alive') q lanes
   mind_later q lanes m = record { known = may_firm q m.known; orders = λ lane o e. firm_on alive alive' each o.since (m.orders lane o e) }
 
   sealed_later : (e : Ended) (f : Fate) → SealedAs alive sent e f → SealedAs alive' sent e f
@@ -84,9 +101,9 @@ module _ (notes notes' : List Note) (sent : List Sent) (alive alive' : List Stor
       let g = each t n in
       g.extends.keeps.keeps e.name.lane e.name.number c.called.since.clock (on_below c.called.since g.from (sound g.from g.there) (firm c m is.kind g.from g.there)) (h c m is g.from g.there)
 
-  pub good_later : (p : Process) → Good notes sent alive p → Good notes' sent alive' p
+  pub good_later : (p : Process) → KeptGood notes sent alive p → KeptGood notes' sent alive' p
   good_later p g = record {
-    orderly = orderly_more notes notes' sent p more g.orderly;
+    orderly = orderly_more ByClock notes notes' sent p more g.orderly;
     mind = mind_later p.client.known p.lanes g.mind;
     stopped = may_firm p.client.stopped g.stopped;
     store = λ k m. mind_later k.known k.lanes (g.store k m);
@@ -194,27 +211,15 @@ left_stays w r h x firm =
     (either_of (λ y. IsFirm y.answer.heard w.alive) r w.left firm x.left)
 
 -- A CLIENT STEPS by itself
-pub client_stays : (w : Both) (i : ℕ) (q : Process) → Stays w → Steps w.server.notes w.sent w.alive (w.clients i) q → Stays (with_client w i q)
+pub client_stays : (w : Both) (i : ℕ) (q : Process) → Stays w → Steps ByClock (Firm w.alive) (Sealed w.alive w.sent) w.server.notes w.sent (w.clients i) q → Stays (with_client w i q)
 client_stays w i q x s = record {
   present = x.present;
   calls = x.calls;
   left = x.left;
   made = x.made;
-  each = at_put (λ j y. Good w.server.notes w.sent w.alive y) w.clients i q s.good x.each;
+  each = at_put (λ j y. KeptGood w.server.notes w.sent w.alive y) w.clients i q s.good x.each;
   told = λ t m. at_put (λ j y. IsToldBy (w.clients j) t.ended → IsToldBy y t.ended) w.clients i q (s.keeps t.ended) (λ j y. y) t.client (x.told t m);
 }
-
--- an order is no question
-pub asks_not : (o : Order) (c : Called) (t : Bool) → is_ask_call c.kind ≡ t → is_of (Some o) c ≡ true → is_ask c.kind ≡ false
-asks_not o c t e of = by c.kind refl
-  where
-    by : (k : Kind) → c.kind ≡ k → is_ask c.kind ≡ false
-    by kind.Order is = ap is_ask is
-    by kind.Cancel is = ap is_ask is
-    by kind.Ask is =
-        let ask : is_ask_call c.kind ≡ true = ap is_ask_call is in
-        let not_of : is_of (Some o) c ≡ false = ap (λ (b : Bool). not b && (o.number == c.number && o.tag == c.tag)) ask in
-        absurd (apart of not_of)
 
 -- WHAT AN ANSWER THAT IS HEARD brings about
 module _ (w : Both) (h : Holds w) (x : Stays w) (i lane : ℕ) (c : Called) (r : Reply) (m : Among r w.left) (waiting : (w.clients i).waits lane ≡ Some c) (o : Order) (is : ((w.clients i).lanes lane).order ≡ Some o) (of : is_of (Some o) c ≡ true) (same : is_same_attempt c.attempt r.answer.attempt ≡ true) where
@@ -236,7 +241,7 @@ module _ (w : Both) (h : Holds w) (x : Stays w) (i lane : ℕ) (c : Called) (r :
   name : name_of r.call ≡ name_on lane o
   name = its_name w.server.notes w.server.past w.sent p lane c r (h.each i) reply waiting h.alone o same of
 
-  ok : OrderOk w.sent p.fates p.alive p.nonces (p.waits lane) lane (p.lanes lane).record_number (p.lanes lane).is_fresh o
+  ok : OrderOk ByClock w.sent p.fates p.alive p.nonces (p.waits lane) lane (p.lanes lane).record_number (p.lanes lane).is_fresh o
   ok = (x.each i).orderly.lanes lane o is
 
   since : r.call.called.since ≡ o.since
@@ -272,16 +277,16 @@ module _ (w : Both) (h : Holds w) (x : Stays w) (i lane : ℕ) (c : Called) (r :
       let at : IsClosed later.store.horizon (row_of (later.store.rows lane)) o.number o.since.clock = subst (λ (q : Known). IsClosed later.store.horizon (row_of (later.store.rows lane)) o.number q.clock) since there in
       closed_lower s.horizon (row_of (s.rows lane)) o.number o.since.clock d.called.since.clock (ok.newest d n is_call) ((from_later s a).keeps.keeps lane o.number o.since.clock clock at)
 
-  brings_by : (said : Word) → r.answer.word ≡ said → Brings w.server.notes w.sent w.alive o lane r said
+  brings_by : (said : Word) → r.answer.word ≡ said → Brings ByClock (Firm w.alive) (Sealed w.alive w.sent) w.server.notes w.sent o lane (p.number + 1) r said
   brings_by word.Done e = done_brings (subst (λ (y : Word). SaysTrue w.server.notes reply.store r y) e reply.says)
-  brings_by word.Never e = never_brings (subst (λ (y : Word). SaysTrue w.server.notes reply.store r y) e reply.says)
+  brings_by word.Never e = inl (never_brings (subst (λ (y : Word). SaysTrue w.server.notes reply.store r y) e reply.says))
   brings_by word.Old e = closed_brings (subst (λ (y : Word). ClosedBy later.store r.call y) e (later.closed not_ask))
   brings_by word.Stale e = closed_brings (subst (λ (y : Word). ClosedBy later.store r.call y) e (later.closed not_ask))
-  brings_by word.NotNow e = subst (λ (q : Known). o.since.clock ≤ q.clock) (sym later.is) clock
+  brings_by word.NotNow e = λ s n is_call. let a = ok.newest s n is_call in let b : o.since.clock ≤ r.answer.heard.clock = subst (λ (q : Known). o.since.clock ≤ q.clock) (sym later.is) clock in omega arith
   brings_by word.AtWork e = tt
   brings_by word.Forked e = tt
   brings_by word.Hello e = tt
   brings_by word.Told e = tt
 
-  pub brings_of : Brings w.server.notes w.sent w.alive o lane r r.answer.word
+  pub brings_of : Brings ByClock (Firm w.alive) (Sealed w.alive w.sent) w.server.notes w.sent o lane (p.number + 1) r r.answer.word
   brings_of = brings_by r.answer.word refl
