@@ -1,24 +1,30 @@
 -- What a program is told.
 use Rattle.std.proofs.Common.{◌≡◌, ◌≢◌, ◌≤◌, ◌<◌, ◌∙◌, ℕ, List, Bool, true, false, ◌⊎◌, inl, inr, ap, sym, subst, arith, refl}
-use Rattle.std.specs.Prelude.{min, if◌then◌else◌, Option, Some, None}
+use Rattle.std.specs.Prelude.{◌&&◌, min, not, if◌then◌else◌, Option, Some, None}
 use Rattle.dt_orders_model.specs.declared.lanes.Fate.{Fate}
 use Rattle.dt_orders_model.specs.declared.lanes.Fate.TheVariants as fate
 use Rattle.dt_orders_model.specs.declared.requests.Verdict.{Verdict}
 use Rattle.dt_orders_model.specs.declared.requests.Verdict.TheVariants as verdict
 use Rattle.dt_orders_model.specs.Closing.{IsClosed, IsOpen}
 use Rattle.dt_orders_model.specs.Fates.{WasExecuted, WasWithdrawn}
-use Rattle.dt_orders_model.specs.Histories.{verdict_at}
-use Rattle.dt_orders_model.specs.Stores.{Among, Name, Store, executions, heard, place_of, row_of, shared}
+use Rattle.dt_orders_model.specs.Histories.{asked_of, known_or, verdict_at}
+use Rattle.dt_orders_model.specs.Judging.{is_ask, is_forked, is_met, judged_by}
+use Rattle.dt_orders_model.specs.Stores.{Among, Name, Store, Taken, Withdrawn, executions, heard, is_same, place_of, row_of, shared}
 use Rattle.dt_orders_laws.proofs.Closed.{open_is_not_closed}
 use Rattle.dt_orders_laws.proofs.Ends as history
-use Rattle.dt_orders_laws.proofs.Moving.{opened_by}
+use Rattle.dt_orders_laws.proofs.Lawful.{untaken_by}
+use Rattle.dt_orders_laws.proofs.Lists.{same_itself}
+use Rattle.dt_orders_laws.proofs.Moving.{lawful_of, opened_by}
 use Rattle.dt_orders_laws.proofs.Settling.{closed_lower}
 use Rattle.dt_orders_world_laws.specs.Both.{Both, Rules, Runs, Told}
 use Rattle.dt_orders_world_laws.specs.Clients.{Ended}
-use Rattle.dt_orders_world_laws.specs.Wires.{Sent, call_as, name_of}
+use Rattle.dt_orders_world_laws.specs.Wires.{Sent, call_as, name_of, note_of}
 use Rattle.dt_orders_world_laws.proofs.Acting.{AreKept, stays_of}
 use Rattle.dt_orders_world_laws.proofs.Called.{uncalled_is_not_executed}
+use Rattle.dt_orders_world_laws.proofs.Facing.{MetBy, ShutAs}
+use Rattle.dt_orders_world_laws.proofs.Puts.{apart}
 use Rattle.dt_orders_world_laws.proofs.Staying.{Sealed, SealedAs}
+use Rattle.dt_orders_world_laws.proofs.Strict.{faces_of}
 use Rattle.dt_orders_world_laws.proofs.Holding.{DoneAt, FateIs}
 use Rattle.dt_orders_world_laws.proofs.Orderly.{IsCallOf}
 use Rattle.dt_orders_world_laws.proofs.Serving.{of_order}
@@ -74,9 +80,10 @@ unknown_now rules w t c strict s k r m e n name v =
     open_is_not_closed w.server.present.horizon (row_of (w.server.present.rows t.ended.name.lane)) t.ended.name.number (shared c.called.since w.server.present) named
     (closed_lower w.server.present.horizon (row_of (w.server.present.rows t.ended.name.lane)) t.ended.name.number c.called.since.clock (shared c.called.since w.server.present) less closed)
 
-pub one_fate : (rules : Rules) (w : Both) (t u : Told) → rules.server ≡ false → rules.clients ≡ false → Runs rules w → Among t w.told → Among u w.told → t.ended.name ≡ u.ended.name → t.ended ≡ u.ended
-one_fate rules w t u s c r m n name =
-    let x = stays_of rules w (record { server = s; clients = c }) r in
+-- ONE FATE, whatever the server's store is set back to
+pub one_fate : (rules : Rules) (w : Both) (t u : Told) → rules.clients ≡ false → Runs rules w → Among t w.told → Among u w.told → t.ended.name ≡ u.ended.name → t.ended ≡ u.ended
+one_fate rules w t u c r m n name =
+    let x = faces_of rules w c r in
     let a = (x.told t m).there in
     let b = (x.told u n).there in
     let mine = ((x.each t.client).orderly.named t.ended a).mine in
@@ -85,3 +92,51 @@ one_fate rules w t u s c r m n name =
     let same : u.client ≡ t.client = (holds_of rules w r).apart u.client t.client t.ended.name.tag (subst (λ (y : ℕ). Among y (w.clients u.client).nonces) (sym tag) yours) mine in
     let there : Among u.ended (w.clients t.client).fates = subst (λ (y : ℕ). Among u.ended (w.clients y).fates) same b in
     (x.each t.client).orderly.once t.ended u.ended a there name
+
+-- a strict server executes only calls that know of its present opening
+abbrev IsExecute : Verdict → Type 0
+IsExecute verdict.Execute = Unit {0}
+IsExecute _ = ⊥
+
+met_by : (t u m : Bool) (v : Verdict) → (if t then verdict.Forked else if u then verdict.Read else if true && not m then verdict.Hello else v) ≡ verdict.Execute → m ≡ true
+met_by true u m v e = let x : IsExecute verdict.Forked = subst IsExecute (sym e) tt in absurd x
+met_by false true m v e = let x : IsExecute verdict.Read = subst IsExecute (sym e) tt in absurd x
+met_by false false true v e = refl
+met_by false false false v e = let x : IsExecute verdict.Hello = subst IsExecute (sym e) tt in absurd x
+
+met_of : (s : Store) (c : Sent) → verdict_at true s (call_as c) ≡ verdict.Execute → MetBy c s.opening.nonce
+met_of s c v = met_by (is_forked c.called.knows (place_of (known_or c.called.since c.called.knows) s)) (is_ask c.called.kind) (is_met s.opening.nonce c.called.knows) (judged_by s.horizon (row_of (s.rows c.lane)) (asked_of (call_as c)) (shared c.called.since s)) v
+
+-- NEVER AND UNKNOWN over set backs of a strict server
+module _ (rules : Rules) (w : Both) (t : Told) (c : Sent) (clients : rules.clients ≡ false) (r : Runs rules w) (m : Among t w.told) (there : Among c w.sent) (name : name_of c ≡ t.ended.name) (v : verdict_at true w.server.present (call_as c) ≡ verdict.Execute) where
+  call : IsCallOf c t.ended.name
+  call = record { kind = of_order true w.server.present c verdict.Execute (λ h. h) v; name = name }
+
+  shut : (f : Fate) → t.ended.fate ≡ f → ShutAs w.server.present w.sent t.ended f
+  shut f e = let x = faces_of rules w clients r in subst (λ (y : Fate). ShutAs w.server.present w.sent t.ended y) e ((x.each t.client).sealed t.ended (x.told t m).there)
+
+  is_open : IsOpen w.server.present.horizon (row_of (w.server.present.rows c.lane)) c.called.number (shared c.called.since w.server.present)
+  is_open = opened_by w.server true (call_as c) verdict.Execute tt v
+
+  never_shut : t.ended.fate ≡ fate.Never → ⊥
+  never_shut e =
+      let h = holds_of rules w r in
+      let l = lawful_of w.server h.reached in
+      let gone = shut fate.Never e c there call (met_of w.server.present c v) in
+      let d : Taken = record { name = t.ended.name; stamp = gone.stamp; act = Withdrawn } in
+      let other = untaken_by w.server l w.server.present l.here (note_of c) ((h.calls c there).noted call.kind) is_open d gone.there (is_same t.ended.name (name_of c)) refl in
+      let same : is_same t.ended.name (name_of c) ≡ true = subst (λ (o : Name). is_same t.ended.name o ≡ true) (sym name) (same_itself t.ended.name) in
+      apart same other
+
+  unknown_shut : t.ended.fate ≡ fate.Unknown → ⊥
+  unknown_shut e =
+      let closed = shut fate.Unknown e c there call (met_of w.server.present c v) in
+      let named : IsOpen w.server.present.horizon (row_of (w.server.present.rows t.ended.name.lane)) t.ended.name.number (shared c.called.since w.server.present) = subst (λ (o : Name). IsOpen w.server.present.horizon (row_of (w.server.present.rows o.lane)) o.number (shared c.called.since w.server.present)) name is_open in
+      open_is_not_closed w.server.present.horizon (row_of (w.server.present.rows t.ended.name.lane)) t.ended.name.number (shared c.called.since w.server.present) named closed
+
+  by_fate : (t.ended.fate ≡ fate.Never) ⊎ (t.ended.fate ≡ fate.Unknown) → ⊥
+  by_fate (inl e) = never_shut e
+  by_fate (inr e) = unknown_shut e
+
+pub settled : (rules : Rules) (w : Both) (t : Told) (c : Sent) → rules.clients ≡ false → Runs rules w → Among t w.told → (t.ended.fate ≡ fate.Never) ⊎ (t.ended.fate ≡ fate.Unknown) → Among c w.sent → name_of c ≡ t.ended.name → verdict_at true w.server.present (call_as c) ≢ verdict.Execute
+settled rules w t c k r m f n name v = by_fate rules w t c k r m n name v f

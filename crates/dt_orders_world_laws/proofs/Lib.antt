@@ -10,6 +10,8 @@ pub mod Asking
 pub mod Noting
 pub mod Staying
 pub mod Acting
+pub mod Facing
+pub mod Strict
 pub mod Called
 pub mod Ends
 pub mod Running

@@ -336,7 +336,7 @@ gives_holds w i lane uid l o h e is =
     (client_notes w i lane uid h g.known g.knows g.free))
 
 -- what a client hears or cancels leaves its nonces
-nonces_left : (p : Process) (lane : ℕ) (l : Lane) (e : Option Ended) → (left_on p lane l e).nonces ≡ p.nonces
+pub nonces_left : (p : Process) (lane : ℕ) (l : Lane) (e : Option Ended) → (left_on p lane l e).nonces ≡ p.nonces
 nonces_left p lane l None = by (l.record_number == p.number + 1)
   where
     by : (t : Bool) → (if t then recorded (with_lane p lane l) else with_lane p lane l).nonces ≡ p.nonces
@@ -344,7 +344,7 @@ nonces_left p lane l None = by (l.record_number == p.number + 1)
     by false = refl
 nonces_left p lane l (Some e) = refl
 
-nonces_heard : (p : Process) (lane : ℕ) (c : Called) (r : Reply) → (heard_on p lane c r).nonces ≡ p.nonces
+pub nonces_heard : (p : Process) (lane : ℕ) (c : Called) (r : Reply) → (heard_on p lane c r).nonces ≡ p.nonces
 nonces_heard p lane c r = by (hearing_of p.client.known c r.answer)
   where
     by : (h : Hearing) → (heard_as h p lane c r).nonces ≡ p.nonces
@@ -353,7 +353,7 @@ nonces_heard p lane c r = by (hearing_of p.client.known c r.answer)
     by hearing.Alarm = refl
     by hearing.Used = nonces_left (record p { client = known_after p.client hearing.Used r.answer; waits = put_at p.waits lane None }) lane _ _
 
-nonces_cancelled : (p : Process) (lane : ℕ) → (cancelled_on p lane).nonces ≡ p.nonces
+pub nonces_cancelled : (p : Process) (lane : ℕ) → (cancelled_on p lane).nonces ≡ p.nonces
 nonces_cancelled p lane = nonces_left p lane _ _
 
 -- EACH STEP

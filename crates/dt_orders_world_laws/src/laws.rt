@@ -2,7 +2,7 @@
 //! number of clients. The server handles any call that was ever made, in any order and as often as one likes,
 //! and any answer that ever left it may be heard by any call, any number of times or never. Either end may lose
 //! at any time what it didn't sync. `Rules` say which ends' stores may also be set back.
-ghost use Rattle.std.specs.Prelude.{ℕ, ◌≡◌, ◌≢◌, ◌≤◌, Bool, false, Some};
+ghost use Rattle.std.specs.Prelude.{ℕ, ◌≡◌, ◌≢◌, ◌≤◌, ◌⊎◌, Bool, false, true, Some};
 ghost use Rattle.dt_orders_model.specs.declared.lanes.Fate.TheVariants.{Done, Never, Unknown};
 ghost use Rattle.dt_orders_model.specs.declared.requests.Verdict.TheVariants as verdict;
 ghost use Rattle.dt_orders_model.specs.Fates.{WasExecuted};
@@ -30,7 +30,8 @@ pub fn only_what_was_called_is_executed()
 pub fn done_means_executed_once_with_this_result()
     ensures named { (rules : Rules) (w : Both) (t : Told) → Runs rules w → Among t w.told →
         t.ended.fate ≡ Done →
-        (s : Store) × Among s w.server.past × (t.ended.heard ≡ Some (heard s)) × WasExecuted s t.ended.name t.ended.result }
+        (s : Store) × Among s w.server.past × (t.ended.heard ≡ Some (heard s)) ×
+        WasExecuted s t.ended.name t.ended.result }
     ensures now { (rules : Rules) (w : Both) (t : Told) → rules.server ≡ false → rules.clients ≡ false →
         Runs rules w → Among t w.told → t.ended.fate ≡ Done →
         WasExecuted w.server.present t.ended.name t.ended.result }
@@ -53,8 +54,19 @@ pub fn unknown_is_settled()
         verdict_at strict w.server.present (call_as c) ≢ verdict.Execute }
 {}
 
-/// ONE FATE: an order's program is told one fate with one result, in whatever lives, if no store is set back.
+/// ONE FATE: an order's program is told one fate with one result, in whatever lives, if no client's store is set
+/// back.
 pub fn one_fate()
-    ensures { (rules : Rules) (w : Both) (t u : Told) → rules.server ≡ false → rules.clients ≡ false →
-        Runs rules w → Among t w.told → Among u w.told → t.ended.name ≡ u.ended.name → t.ended ≡ u.ended }
+    ensures { (rules : Rules) (w : Both) (t u : Told) → rules.clients ≡ false → Runs rules w →
+        Among t w.told → Among u w.told → t.ended.name ≡ u.ended.name → t.ended ≡ u.ended }
+{}
+
+/// NEVER AND UNKNOWN OVER SET BACKS of the server's store, to any state that it ever had: after its program was
+/// told so, no call of the order that was ever made is executed by a strict server, if no client's store is set
+/// back.
+pub fn never_and_unknown_stay_over_set_backs()
+    ensures { (rules : Rules) (w : Both) (t : Told) (c : Sent) → rules.clients ≡ false → Runs rules w →
+        Among t w.told → (t.ended.fate ≡ Never) ⊎ (t.ended.fate ≡ Unknown) →
+        Among c w.sent → name_of c ≡ t.ended.name →
+        verdict_at true w.server.present (call_as c) ≢ verdict.Execute }
 {}
