@@ -1,30 +1,28 @@
 -- Where no store is set back: a client's calls and notes.
-use Rattle.std.proofs.Common.{◌≡◌, ◌≢◌, ◌+◌, ◌≤◌, ◌<◌, ◌∙◌, ℕ, List, [], ◌∷◌, Bool, true, false, ◌⊎◌, inl, inr, ap, sym, subst, arith, refl}
-use Rattle.std.specs.Prelude.{◌==◌, ◌&&◌, not, Option, Some, None}
-use Rattle.std.proofs.lemmas.Bool.Decides.{nat_tests}
+use Rattle.std.proofs.Common.{◌≡◌, ◌≢◌, ◌+◌, ◌≤◌, ◌∙◌, ℕ, List, [], ◌∷◌, false, inl, inr, ap, sym, subst, arith, refl}
+use Rattle.std.specs.Prelude.{Option, Some, None}
 use Rattle.dt_orders_model.specs.declared.knowledge.Known.{Known}
 use Rattle.dt_orders_model.specs.declared.lanes.Called.{Called}
 use Rattle.dt_orders_model.specs.declared.lanes.Fate.{Fate}
 use Rattle.dt_orders_model.specs.declared.lanes.Fate.TheVariants as fate
 use Rattle.dt_orders_model.specs.declared.lanes.Lane.{Lane}
 use Rattle.dt_orders_model.specs.declared.lanes.Order.{Order}
-use Rattle.dt_orders_model.specs.declared.lanes.Sending.TheVariants as sending
 use Rattle.dt_orders_model.specs.Histories.{Note, noted}
 use Rattle.dt_orders_model.specs.Judging.{is_ask}
-use Rattle.dt_orders_model.specs.Lanes.{call_of, given_of, is_ask_call, is_of, kind_of, lane_made, lane_noted, lane_unsure}
-use Rattle.dt_orders_model.specs.Stores.{Among, Name, Store, is_same}
-use Rattle.dt_orders_laws.proofs.Lists.{either_of, same_itself}
+use Rattle.dt_orders_model.specs.Lanes.{call_of, given_of}
+use Rattle.dt_orders_model.specs.Stores.{Among, Store}
+use Rattle.dt_orders_laws.proofs.Lists.{either_of}
 use Rattle.dt_orders_world_laws.specs.Both.{AreAmong, Both, IsFirm, MayAsk, Rules, Runs, Step, Told, adopts, asks, begins, calls, cancels, dies, ends, first_both, gives, handles, hears, leaves, makes, opens, restores, set_back, stores, syncs, tells, with_client, works}
 use Rattle.dt_orders_world_laws.specs.Both as both
-use Rattle.dt_orders_world_laws.specs.Clients.{Ended, Kept, Process, asked_on, attempt_of, called_on, name_on, noted_on, put_at, question_of, recorded, with_lane}
-use Rattle.dt_orders_world_laws.specs.Wires.{Reply, Sent, name_of, note_of}
-use Rattle.dt_orders_world_laws.proofs.Good.{Good, IsToldBy, MayBe, Steps, adopted_ok, cancelled_ok, ended_ok, heard_ok, opened_ok, recorded_ok, same_ok, stored_ok, told_left}
-use Rattle.dt_orders_world_laws.proofs.Holding.{Holds, IsGiven, IsMade}
+use Rattle.dt_orders_world_laws.specs.Clients.{Ended, Process, asked_on, attempt_of, called_on, name_on, noted_on, question_of}
+use Rattle.dt_orders_world_laws.specs.Wires.{Sent}
+use Rattle.dt_orders_world_laws.proofs.Good.{IsToldBy, adopted_ok, cancelled_ok, ended_ok, heard_ok, opened_ok, stored_ok, told_left}
+use Rattle.dt_orders_world_laws.proofs.Holding.{Holds}
 use Rattle.dt_orders_world_laws.proofs.Noting.{asker_good, beside_question, its_lane, its_note, its_since, maker_is, noted_good, noter_good, other_good, told_noted}
-use Rattle.dt_orders_world_laws.proofs.Orderly.{ByClock, IsCallOf, LaneOk, NamedBy, OrderOk, Orderly, called_in, lane_in, orderly_more, same_in, waits_in}
-use Rattle.dt_orders_world_laws.proofs.Puts.{apart, at_put, at_put_at, none_is, put_here, some_is}
+use Rattle.dt_orders_world_laws.proofs.Orderly.{ByClock, IsCallOf}
+use Rattle.dt_orders_world_laws.proofs.Puts.{apart, at_put, at_put_at, none_is, some_is}
 use Rattle.dt_orders_world_laws.proofs.Staying.{Firm, KeptGood, Sealed, SealedAs, Stays, brings_of, client_stays, handled_stays, left_stays, opened_stays, synced_stays, works_stays}
-use Rattle.dt_orders_world_laws.proofs.Stepping.{Called_is, Gave, call_is, fresh_by, gave_is, given, holds_of, note, step_holds}
+use Rattle.dt_orders_world_laws.proofs.Stepping.{gave_is, holds_of, step_holds}
 
 -- A CALL MORE, of none of the orders that have a fate
 sealed_more : (alive : List Store) (sent : List Sent) (s : Sent) (e : Ended) (f : Fate) → (IsCallOf s e.name → ⊥) → SealedAs alive sent e f → SealedAs alive (s ∷ sent) e f

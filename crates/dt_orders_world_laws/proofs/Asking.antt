@@ -20,4 +20,3 @@ asks_not o c t e of = by c.kind refl
         let ask : is_ask_call c.kind ≡ true = ap is_ask_call is in
         let not_of : is_of (Some o) c ≡ false = ap (λ (b : Bool). not b && (o.number == c.number && o.tag == c.tag)) ask in
         absurd (apart of not_of)
-

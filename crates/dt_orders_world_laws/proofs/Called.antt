@@ -1,11 +1,10 @@
 -- What is executed or withdrawn was called by some client.
-use Rattle.std.proofs.Common.{◌≡◌, ◌≢◌, ◌+◌, ◌≤◌, ◌<◌, ◌∙◌, ℕ, List, [], ◌∷◌, Bool, true, false, ◌⊎◌, inl, inr, ap, sym, subst, arith, refl}
-use Rattle.std.specs.Prelude.{Option, Some, None}
+use Rattle.std.proofs.Common.{◌≡◌, ◌+◌, ◌∙◌, ℕ, List, [], ◌∷◌, Bool, inl, inr, ap, arith, refl}
 use Rattle.std.proofs.lemmas.Bool.{cases_lt}
 use Rattle.dt_orders_model.specs.declared.requests.Verdict.TheVariants as verdict
 use Rattle.dt_orders_model.specs.declared.lanes.Word.{Word}
 use Rattle.dt_orders_model.specs.Histories.{World}
-use Rattle.dt_orders_model.specs.Stores.{Act, Among, Executed, Name, Store, Taken, Withdrawn, executions, is_same}
+use Rattle.dt_orders_model.specs.Stores.{Act, Among, Executed, Name, Store, Taken, Withdrawn, executions}
 use Rattle.dt_orders_laws.proofs.Lists.{AreAlike, alike_of, either_of, its_execution}
 use Rattle.dt_orders_world_laws.specs.Both.{Both, Rules, Runs, Step, adopts, asks, begins, calls, cancels, dies, ends, first_both, gives, handles, hears, leaves, makes, opens, restores, set_back, stores, syncs, tells, with_client, works}
 use Rattle.dt_orders_world_laws.specs.Both as both

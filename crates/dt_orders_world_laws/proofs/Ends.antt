@@ -1,11 +1,11 @@
 -- What a program is told.
-use Rattle.std.proofs.Common.{◌≡◌, ◌≢◌, ◌≤◌, ◌<◌, ◌∙◌, ℕ, List, Bool, true, false, ◌⊎◌, inl, inr, ap, sym, subst, arith, refl}
-use Rattle.std.specs.Prelude.{◌&&◌, min, not, if◌then◌else◌, Option, Some, None}
+use Rattle.std.proofs.Common.{◌≡◌, ◌≢◌, ◌≤◌, ℕ, Bool, true, false, ◌⊎◌, inl, inr, ap, sym, subst, arith, refl}
+use Rattle.std.specs.Prelude.{◌&&◌, min, not, if◌then◌else◌, Some}
 use Rattle.dt_orders_model.specs.declared.lanes.Fate.{Fate}
 use Rattle.dt_orders_model.specs.declared.lanes.Fate.TheVariants as fate
 use Rattle.dt_orders_model.specs.declared.requests.Verdict.{Verdict}
 use Rattle.dt_orders_model.specs.declared.requests.Verdict.TheVariants as verdict
-use Rattle.dt_orders_model.specs.Closing.{IsClosed, IsOpen}
+use Rattle.dt_orders_model.specs.Closing.{IsOpen}
 use Rattle.dt_orders_model.specs.Fates.{WasExecuted, WasWithdrawn}
 use Rattle.dt_orders_model.specs.Histories.{asked_of, known_or, verdict_at}
 use Rattle.dt_orders_model.specs.Judging.{is_ask, is_forked, is_met, judged_by}
@@ -17,13 +17,12 @@ use Rattle.dt_orders_laws.proofs.Lists.{same_itself}
 use Rattle.dt_orders_laws.proofs.Moving.{lawful_of, opened_by}
 use Rattle.dt_orders_laws.proofs.Settling.{closed_lower}
 use Rattle.dt_orders_world_laws.specs.Both.{Both, Rules, Runs, Told}
-use Rattle.dt_orders_world_laws.specs.Clients.{Ended}
 use Rattle.dt_orders_world_laws.specs.Wires.{Sent, call_as, name_of, note_of}
 use Rattle.dt_orders_world_laws.proofs.Acting.{AreKept, stays_of}
 use Rattle.dt_orders_world_laws.proofs.Called.{uncalled_is_not_executed}
 use Rattle.dt_orders_world_laws.proofs.Facing.{MetBy, ShutAs}
 use Rattle.dt_orders_world_laws.proofs.Puts.{apart}
-use Rattle.dt_orders_world_laws.proofs.Staying.{Sealed, SealedAs}
+use Rattle.dt_orders_world_laws.proofs.Staying.{SealedAs}
 use Rattle.dt_orders_world_laws.proofs.Strict.{faces_of}
 use Rattle.dt_orders_world_laws.proofs.Holding.{DoneAt, FateIs}
 use Rattle.dt_orders_world_laws.proofs.Orderly.{IsCallOf}

@@ -1,6 +1,6 @@
 -- Both ends, where the server's store may be set back and takes only calls of clients that know its present opening.
-use Rattle.std.proofs.Common.{◌≡◌, ◌≢◌, ◌+◌, ◌≤◌, ◌<◌, ◌∙◌, ℕ, List, [], ◌∷◌, Bool, true, false, ◌⊎◌, inl, inr, ap, sym, subst, arith, refl, length}
-use Rattle.std.specs.Prelude.{◌-◌, ◌==◌, ◌&&◌, min, nat_le, not, if◌then◌else◌, Option, Some, None}
+use Rattle.std.proofs.Common.{◌≡◌, ◌≢◌, ◌+◌, ◌≤◌, ◌∙◌, ℕ, List, ◌∷◌, Bool, true, false, ◌⊎◌, inl, inr, ap, sym, subst, arith, refl, length}
+use Rattle.std.specs.Prelude.{◌-◌, ◌==◌, min, if◌then◌else◌, Option, Some, None}
 use Rattle.std.proofs.lemmas.Bool.Decides.{nat_tests}
 use Rattle.dt_orders_model.specs.declared.knowledge.Known.{Known}
 use Rattle.dt_orders_model.specs.declared.knowledge.Opening.{Opening}
@@ -10,7 +10,6 @@ use Rattle.dt_orders_model.specs.declared.lanes.Called.{Called}
 use Rattle.dt_orders_model.specs.declared.lanes.Client.{Client}
 use Rattle.dt_orders_model.specs.declared.lanes.Fate.{Fate}
 use Rattle.dt_orders_model.specs.declared.lanes.Fate.TheVariants as fate
-use Rattle.dt_orders_model.specs.declared.lanes.Order.{Order}
 use Rattle.dt_orders_model.specs.declared.lanes.Word.{Word}
 use Rattle.dt_orders_model.specs.declared.lanes.Word.TheVariants as word
 use Rattle.dt_orders_model.specs.Closing.{IsClosed}
@@ -24,12 +23,12 @@ use Rattle.dt_orders_laws.proofs.Moving.{lawful_of}
 use Rattle.dt_orders_laws.proofs.Places.{IsHeard, shared_goes_on}
 use Rattle.dt_orders_laws.proofs.Settling.{closed_lower}
 use Rattle.dt_orders_world_laws.specs.Both.{AreAmong, Both, Told, handled, opened_server}
-use Rattle.dt_orders_world_laws.specs.Clients.{Ended, Kept, Process}
+use Rattle.dt_orders_world_laws.specs.Clients.{Ended, Process}
 use Rattle.dt_orders_world_laws.specs.Wires.{Handles, Reply, Sent, Works, finishes, forgets, name_of, note_of, reply_to}
-use Rattle.dt_orders_world_laws.proofs.Firm.{on_itself, on_next, on_shared}
-use Rattle.dt_orders_world_laws.proofs.Good.{Good, IsToldBy, MayBe, MindIs}
+use Rattle.dt_orders_world_laws.proofs.Firm.{on_itself, on_next}
+use Rattle.dt_orders_world_laws.proofs.Good.{Good, IsToldBy}
 use Rattle.dt_orders_world_laws.proofs.Holding.{Holds, MayKnow, SaysTrue, WasHeard}
-use Rattle.dt_orders_world_laws.proofs.Orderly.{IsCallOf, KeptOk, LaneOk, OrderOk, Orderly, StoredOk, orderly_more}
+use Rattle.dt_orders_world_laws.proofs.Orderly.{IsCallOf, Orderly, orderly_more}
 use Rattle.dt_orders_world_laws.proofs.Serving.{Next, handling}
 
 -- the client knew of the opening when it called

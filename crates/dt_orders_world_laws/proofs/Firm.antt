@@ -1,14 +1,13 @@
 -- Commits that no crash loses.
-use Rattle.std.proofs.Common.{◌≡◌, ◌≢◌, ◌+◌, ◌≤◌, ◌<◌, ◌∙◌, ℕ, List, [], ◌∷◌, Bool, true, false, ◌⊎◌, inl, inr, ap, sym, subst, arith, refl, length}
-use Rattle.std.specs.Prelude.{◌-◌, ◌==◌, ◌&&◌, min, nat_le, if◌then◌else◌, Option, Some, None}
+use Rattle.std.proofs.Common.{◌≡◌, ◌+◌, ◌≤◌, ◌<◌, ℕ, List, [], ◌∷◌, Bool, true, false, ◌⊎◌, inl, inr, sym, subst, arith, refl, length}
+use Rattle.std.specs.Prelude.{◌-◌, ◌==◌, ◌&&◌, min, nat_le, if◌then◌else◌}
 use Rattle.std.proofs.lemmas.Bool.Decides.{nat_tests}
 use Rattle.dt_orders_model.specs.declared.knowledge.Known.{Known}
 use Rattle.dt_orders_model.specs.declared.knowledge.Opening.{Opening}
 use Rattle.dt_orders_model.specs.declared.knowledge.Place.{Place}
-use Rattle.dt_orders_model.specs.Chains.{is_on_by, place_in, shared_by}
-use Rattle.dt_orders_model.specs.Histories.{World}
+use Rattle.dt_orders_model.specs.Chains.{is_on_by, place_in}
 use Rattle.dt_orders_model.specs.Stores.{Among, Store, heard, is_on, place_of, reopened, shared}
-use Rattle.dt_orders_laws.proofs.Lawful.{Extends, IsPast, Lawful}
+use Rattle.dt_orders_laws.proofs.Lawful.{Extends}
 use Rattle.dt_orders_laws.proofs.Places.{head_is, left_within}
 use Rattle.dt_orders_laws.proofs.Sound.{Sound}
 use Rattle.dt_orders_world_laws.specs.Both.{IsFirm}

@@ -1,5 +1,5 @@
 -- A client that is in order, whatever is held of the commits that it goes by and of its fates.
-use Rattle.std.proofs.Common.{◌≡◌, ◌≢◌, ◌+◌, ◌≤◌, ◌<◌, ◌∙◌, ℕ, List, [], ◌∷◌, Bool, true, false, ◌⊎◌, inl, inr, ap, sym, subst, arith, refl}
+use Rattle.std.proofs.Common.{◌≡◌, ◌≢◌, ◌+◌, ◌≤◌, ◌∙◌, ℕ, List, [], ◌∷◌, Bool, true, false, inr, ap, sym, subst, arith, refl}
 use Rattle.std.specs.Prelude.{◌==◌, ◌&&◌, nat_le, not, if◌then◌else◌, Option, Some, None}
 use Rattle.dt_orders_model.specs.declared.knowledge.Known.{Known}
 use Rattle.dt_orders_model.specs.declared.lanes.Called.{Called}
@@ -13,19 +13,16 @@ use Rattle.dt_orders_model.specs.declared.lanes.Left.{Left}
 use Rattle.dt_orders_model.specs.declared.lanes.Order.{Order}
 use Rattle.dt_orders_model.specs.declared.lanes.Word.{Word}
 use Rattle.dt_orders_model.specs.declared.lanes.Word.TheVariants as word
-use Rattle.dt_orders_model.specs.Closing.{IsClosed}
-use Rattle.dt_orders_model.specs.Fates.{WasExecuted, WasWithdrawn}
 use Rattle.dt_orders_model.specs.Histories.{Note}
-use Rattle.dt_orders_model.specs.Judging.{is_ask}
 use Rattle.dt_orders_model.specs.Lanes.{adopted_by, cancelled_by, effect_of, fate_by, hearing_of, is_fork, is_now, is_of, is_same_attempt, is_same_opening, is_usable, known_after, lane_by, lane_ended, lane_renewed, lane_unsure, left_by, newer}
-use Rattle.dt_orders_model.specs.Stores.{Among, Name, Store, row_of}
+use Rattle.dt_orders_model.specs.Stores.{Among, Name}
 use Rattle.dt_orders_laws.proofs.Lists.{either_of}
-use Rattle.dt_orders_world_laws.specs.Both.{AreAmong, IsFirm}
+use Rattle.dt_orders_world_laws.specs.Both.{AreAmong}
 use Rattle.dt_orders_world_laws.specs.Clients.{Ended, Kept, Process, adopted_on, cancelled_on, ended_by, ended_on, heard_as, heard_on, kept_of, left_on, name_on, opened_on, put_at, recorded, with_lane}
-use Rattle.dt_orders_world_laws.specs.Wires.{Reply, Sent, name_of}
-use Rattle.dt_orders_world_laws.proofs.Holding.{IsClient, IsGiven}
-use Rattle.dt_orders_world_laws.proofs.Orderly.{IsCallOf, NamedBy, OrderOk, Orderly, fate_in, free_in, knows_in, lane_in, opened_in, recorded_in, same_in, stored_in, waits_in}
-use Rattle.dt_orders_world_laws.proofs.Puts.{apart, at_put, at_put_at, none_is, put_here, some_is}
+use Rattle.dt_orders_world_laws.specs.Wires.{Reply, Sent}
+use Rattle.dt_orders_world_laws.proofs.Holding.{IsGiven}
+use Rattle.dt_orders_world_laws.proofs.Orderly.{IsCallOf, OrderOk, Orderly, fate_in, free_in, knows_in, lane_in, opened_in, recorded_in, same_in, stored_in, waits_in}
+use Rattle.dt_orders_world_laws.proofs.Puts.{at_put, at_put_at, none_is, put_here, some_is}
 
 abbrev pub MayBe : (Known → Type 0) → Option Known → Type 0
 MayBe F None = Unit {0}
@@ -273,7 +270,7 @@ module _ (R : Sent → Known → Type 0) (F : Known → Type 0) (S : Ended → T
     heard_case hearing.Used e =
         let same = used_same (is_same_attempt c.attempt r.answer.attempt) (if is_fork r.answer.word then (if is_now p.client.known c.knows then hearing.Alarm else hearing.Unsure) else if is_usable p.client.known c.knows r.answer.heard then hearing.Used else hearing.Unsure) e in
         let good = subst (λ (x : Bool). let left = left_by (is_of (p.lanes lane).order c) (p.lanes lane).order p.client.nonce (p.lanes lane) (effect_of r.answer.word x) r.answer (p.number + 1) in LeftBy (p.lanes lane).order left.lane left.fate) (not_once c.is_only p.client.is_once once)
-            (used_case (is_of (p.lanes lane).order c) (p.lanes lane).order refl refl same e) in
+        (used_case (is_of (p.lanes lane).order c) (p.lanes lane).order refl refl same e) in
         record { good = good; keeps = λ f t. told_left listener lane _ _ f (record { there = t.there; kept = t.kept }) }
 
     pub heard_ok : Steps R F S notes sent p (heard_on p lane c r)

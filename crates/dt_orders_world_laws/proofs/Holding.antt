@@ -1,5 +1,5 @@
 -- What holds of both ends in every history, whatever is set back.
-use Rattle.std.proofs.Common.{◌≡◌, ◌≢◌, ◌+◌, ◌≤◌, ◌<◌, ◌∙◌, ℕ, List, [], ◌∷◌, Bool, true, false, ◌⊎◌, inl, inr, ap, sym, subst, arith, refl}
+use Rattle.std.proofs.Common.{◌≡◌, ◌≤◌, ◌<◌, ◌∙◌, ℕ, List, false, ap, subst}
 use Rattle.std.specs.Prelude.{max, Option, Some, None}
 use Rattle.dt_orders_model.specs.declared.knowledge.Known.{Known}
 use Rattle.dt_orders_model.specs.declared.lanes.Called.{Called}
@@ -11,11 +11,11 @@ use Rattle.dt_orders_model.specs.declared.lanes.Word.{Word}
 use Rattle.dt_orders_model.specs.declared.lanes.Word.TheVariants as word
 use Rattle.dt_orders_model.specs.Closing.{IsClosed}
 use Rattle.dt_orders_model.specs.Fates.{WasExecuted, WasWithdrawn}
-use Rattle.dt_orders_model.specs.Histories.{Note, Reached, World}
+use Rattle.dt_orders_model.specs.Histories.{Note, Reached}
 use Rattle.dt_orders_model.specs.Judging.{is_ask}
 use Rattle.dt_orders_model.specs.Stores.{Among, Name, Store, heard, row_of, shared}
 use Rattle.dt_orders_world_laws.specs.Both.{AreAmong, Both, Told}
-use Rattle.dt_orders_world_laws.specs.Clients.{Ended, Kept, Process, name_on, put_at}
+use Rattle.dt_orders_world_laws.specs.Clients.{Ended, Kept, Process, name_on}
 use Rattle.dt_orders_world_laws.specs.Wires.{Reply, Sent, name_of, note_of}
 
 -- a commit that somebody may have heard of

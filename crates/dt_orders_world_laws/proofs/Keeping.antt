@@ -1,5 +1,5 @@
 -- A step of a client, by itself.
-use Rattle.std.proofs.Common.{◌≡◌, ◌≢◌, ◌+◌, ◌≤◌, ◌<◌, ◌∙◌, ℕ, List, [], ◌∷◌, Bool, true, false, ◌⊎◌, inl, inr, ap, sym, subst, arith, refl}
+use Rattle.std.proofs.Common.{◌≡◌, ◌≢◌, ◌+◌, ◌≤◌, ◌∙◌, ℕ, List, [], ◌∷◌, Bool, true, false, inl, inr, ap, sym, subst, arith, refl}
 use Rattle.std.specs.Prelude.{◌==◌, ◌&&◌, max, nat_le, not, if◌then◌else◌, Option, Some, None}
 use Rattle.std.proofs.lemmas.Bool.Decides.{nat_tests}
 use Rattle.dt_orders_model.specs.declared.knowledge.Known.{Known}
@@ -14,16 +14,15 @@ use Rattle.dt_orders_model.specs.declared.lanes.Left.{Left}
 use Rattle.dt_orders_model.specs.declared.lanes.Order.{Order}
 use Rattle.dt_orders_model.specs.declared.lanes.Word.{Word}
 use Rattle.dt_orders_model.specs.declared.lanes.Word.TheVariants as word
-use Rattle.dt_orders_model.specs.declared.requests.Kind.TheVariants as kind
 use Rattle.dt_orders_model.specs.Fates.{WasExecuted}
 use Rattle.dt_orders_model.specs.Histories.{Note}
-use Rattle.dt_orders_model.specs.Lanes.{above_of, adopted_by, cancelled_by, effect_of, fate_by, hearing_of, is_ask_call, is_fork, is_now, is_of, is_same_attempt, is_same_opening, is_usable, known_after, lane_by, lane_ended, lane_opened, lane_renewed, lane_unsure, left_by, newer}
+use Rattle.dt_orders_model.specs.Lanes.{adopted_by, cancelled_by, effect_of, fate_by, hearing_of, is_fork, is_now, is_of, is_same_attempt, is_same_opening, is_usable, known_after, lane_by, lane_ended, lane_renewed, lane_unsure, left_by, newer}
 use Rattle.dt_orders_model.specs.Stores.{Among, Name, Store, heard}
 use Rattle.dt_orders_laws.proofs.Lists.{either_of}
 use Rattle.dt_orders_world_laws.specs.Clients.{Ended, Kept, Process, adopted_on, cancelled_on, ended_by, ended_on, heard_as, heard_on, kept_of, left_on, name_on, opened_on, put_at, recorded, with_lane}
 use Rattle.dt_orders_world_laws.specs.Wires.{Reply, Sent, name_of}
-use Rattle.dt_orders_world_laws.proofs.Holding.{DoneAt, IsClient, IsGiven, IsMade, IsMind, IsReply, IsTrueFate, MayKnow, SaysTrue, WasHeard, top, top_of}
-use Rattle.dt_orders_world_laws.proofs.Puts.{at_put, at_put_at, attempt_is, apart}
+use Rattle.dt_orders_world_laws.proofs.Holding.{IsClient, IsGiven, IsMade, IsMind, IsReply, IsTrueFate, MayKnow, SaysTrue, WasHeard, top, top_of}
+use Rattle.dt_orders_world_laws.proofs.Puts.{at_put, at_put_at, attempt_is}
 
 -- a fate that may be there is so
 abbrev pub MayEnd : List Store → Option Ended → Type 0

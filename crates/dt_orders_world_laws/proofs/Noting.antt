@@ -1,29 +1,25 @@
 -- Calls and notes of a client that is in order, whatever is held of the commits that it goes by and of its fates.
-use Rattle.std.proofs.Common.{◌≡◌, ◌≢◌, ◌+◌, ◌≤◌, ◌<◌, ◌∙◌, ℕ, List, [], ◌∷◌, Bool, true, false, ◌⊎◌, inl, inr, ap, sym, subst, arith, refl}
-use Rattle.std.specs.Prelude.{◌==◌, ◌&&◌, not, Option, Some, None}
+use Rattle.std.proofs.Common.{◌≡◌, ◌≢◌, ◌+◌, ◌∙◌, ℕ, List, ◌∷◌, true, false, inr, ap, sym, subst, arith, refl}
+use Rattle.std.specs.Prelude.{Option, Some, None}
 use Rattle.std.proofs.lemmas.Bool.Decides.{nat_tests}
 use Rattle.dt_orders_model.specs.declared.knowledge.Known.{Known}
 use Rattle.dt_orders_model.specs.declared.lanes.Called.{Called}
-use Rattle.dt_orders_model.specs.declared.lanes.Fate.{Fate}
-use Rattle.dt_orders_model.specs.declared.lanes.Fate.TheVariants as fate
 use Rattle.dt_orders_model.specs.declared.lanes.Lane.{Lane}
 use Rattle.dt_orders_model.specs.declared.lanes.Order.{Order}
 use Rattle.dt_orders_model.specs.declared.lanes.Sending.TheVariants as sending
-use Rattle.dt_orders_model.specs.Histories.{Note, noted}
-use Rattle.dt_orders_model.specs.Judging.{is_ask}
-use Rattle.dt_orders_model.specs.Lanes.{call_of, given_of, is_ask_call, is_of, kind_of, lane_made, lane_noted, lane_unsure}
-use Rattle.dt_orders_model.specs.Stores.{Among, Name, Store, is_same}
+use Rattle.dt_orders_model.specs.Histories.{Note}
+use Rattle.dt_orders_model.specs.Lanes.{call_of, is_ask_call, is_of, lane_made, lane_unsure}
+use Rattle.dt_orders_model.specs.Stores.{Among, Name, is_same}
 use Rattle.dt_orders_laws.proofs.Lists.{either_of, same_itself}
-use Rattle.dt_orders_world_laws.specs.Both.{AreAmong, Both, with_client}
-use Rattle.dt_orders_world_laws.specs.Clients.{Ended, Kept, Process, asked_on, attempt_of, called_on, name_on, noted_on, put_at, question_of, recorded, with_lane}
-use Rattle.dt_orders_world_laws.specs.Wires.{Reply, Sent, name_of, note_of}
+use Rattle.dt_orders_world_laws.specs.Both.{Both}
+use Rattle.dt_orders_world_laws.specs.Clients.{Ended, Kept, Process, asked_on, attempt_of, called_on, name_on, noted_on, put_at, question_of, with_lane}
+use Rattle.dt_orders_world_laws.specs.Wires.{Sent, name_of, note_of}
 use Rattle.dt_orders_world_laws.proofs.Good.{Good, IsToldBy, MayBe, recorded_ok, same_ok}
-use Rattle.dt_orders_world_laws.proofs.Holding.{Holds, IsGiven, IsMade}
-use Rattle.dt_orders_world_laws.proofs.Orderly.{ByClock, IsCallOf, LaneOk, NamedBy, OrderOk, Orderly, called_in, lane_in, orderly_more, same_in, waits_in}
-use Rattle.dt_orders_world_laws.proofs.Puts.{apart, at_put, at_put_at, none_is, put_here, some_is}
+use Rattle.dt_orders_world_laws.proofs.Holding.{Holds, IsMade}
+use Rattle.dt_orders_world_laws.proofs.Orderly.{IsCallOf, OrderOk, Orderly, called_in, lane_in, orderly_more, waits_in}
+use Rattle.dt_orders_world_laws.proofs.Puts.{apart, at_put, at_put_at, put_here, some_is}
 use Rattle.dt_orders_world_laws.proofs.Asking.{asks_not}
 use Rattle.dt_orders_world_laws.proofs.Stepping.{Called_is, call_is, fresh_by, given, note}
-
 
 good_called : (R : Sent → Known → Type 0) (F : Known → Type 0) (S S' : Ended → Type 0) (notes : List Note) (sent : List Sent) (s : Sent) (p : Process) → Good R F S notes sent p → Orderly R notes (s ∷ sent) p → ((e : Ended) → Among e p.fates → S e → S' e) → Good R F S' notes (s ∷ sent) p
 good_called R F S S' notes sent s p g orderly more = record {
@@ -203,4 +199,3 @@ module _ (R : Sent → Known → Type 0) (F : Known → Type 0) (S : Ended → T
 
   pub told_noted : (e : Ended) → IsToldBy noter e → IsToldBy (noted_on noter lane its_lane) e
   told_noted e t = record { there = t.there; kept = either_of (λ k. Among e k.fates) _ noter.alive t.there t.kept }
-

@@ -1,7 +1,6 @@
 -- What a client keeps in order while its store isn't set back.
-use Rattle.std.proofs.Common.{◌≡◌, ◌≢◌, ◌+◌, ◌≤◌, ◌<◌, ◌∙◌, ℕ, List, [], ◌∷◌, Bool, true, false, ◌⊎◌, inl, inr, ap, sym, subst, arith, refl}
-use Rattle.std.specs.Prelude.{◌==◌, ◌&&◌, not, if◌then◌else◌, Option, Some, None}
-use Rattle.std.proofs.lemmas.Bool.Decides.{nat_tests}
+use Rattle.std.proofs.Common.{◌≡◌, ◌≢◌, ◌+◌, ◌≤◌, ◌∙◌, ℕ, List, [], ◌∷◌, Bool, true, false, inl, inr, ap, sym, subst, arith, refl}
+use Rattle.std.specs.Prelude.{Option, Some, None}
 use Rattle.dt_orders_model.specs.declared.knowledge.Known.{Known}
 use Rattle.dt_orders_model.specs.declared.lanes.Called.{Called}
 use Rattle.dt_orders_model.specs.declared.lanes.Client.{Client}
@@ -9,13 +8,13 @@ use Rattle.dt_orders_model.specs.declared.lanes.Lane.{Lane}
 use Rattle.dt_orders_model.specs.declared.lanes.Order.{Order}
 use Rattle.dt_orders_model.specs.Histories.{Note}
 use Rattle.dt_orders_model.specs.Judging.{is_ask}
-use Rattle.dt_orders_model.specs.Lanes.{is_of, lane_opened, lane_unsure}
+use Rattle.dt_orders_model.specs.Lanes.{is_of}
 use Rattle.dt_orders_model.specs.Stores.{Among, Name}
 use Rattle.dt_orders_laws.proofs.Lists.{either_of}
 use Rattle.dt_orders_world_laws.specs.Both.{AreAmong}
 use Rattle.dt_orders_world_laws.specs.Clients.{Ended, Kept, Process, kept_of, name_on, opened_on, put_at, recorded, with_lane}
 use Rattle.dt_orders_world_laws.specs.Wires.{Sent, name_of}
-use Rattle.dt_orders_world_laws.proofs.Puts.{at_put, at_put_at, apart, none_is, some_is}
+use Rattle.dt_orders_world_laws.proofs.Puts.{at_put, at_put_at, apart, none_is}
 
 -- a call of an order
 pub record IsCallOf (s : Sent) (o : Name) : Type 0 where

@@ -1,10 +1,9 @@
 -- Tables that are put, and lists.
-use Rattle.std.proofs.Common.{◌≡◌, ◌≢◌, ◌≤◌, ◌<◌, ◌∙◌, ℕ, List, [], ◌∷◌, Bool, true, false, ◌⊎◌, inl, inr, ap, sym, subst, arith, refl}
-use Rattle.std.specs.Prelude.{◌==◌, ◌&&◌, if◌then◌else◌, Option, Some, None}
+use Rattle.std.proofs.Common.{◌≡◌, ◌≢◌, ◌∙◌, ℕ, Bool, true, false, ap, sym, subst, arith, refl}
+use Rattle.std.specs.Prelude.{◌==◌, if◌then◌else◌, Option, Some, None}
 use Rattle.std.proofs.lemmas.Bool.Decides.{nat_tests}
 use Rattle.dt_orders_model.specs.declared.lanes.Attempt.{Attempt}
 use Rattle.dt_orders_model.specs.Lanes.{is_same_attempt}
-use Rattle.dt_orders_model.specs.Stores.{Among, Name}
 use Rattle.dt_orders_world_laws.specs.Clients.{put_at}
 
 -- what holds of what is put, and of each other place, holds at each place

@@ -1,6 +1,6 @@
 -- The worked run is a history.
-use Rattle.std.proofs.Common.{◌≡◌, ◌≢◌, ◌+◌, ◌≤◌, ℕ, List, [], ◌∷◌, Bool, true, false, inl, inr, arith, refl}
-use Rattle.std.specs.Prelude.{Option, Some, None, take}
+use Rattle.std.proofs.Common.{◌≡◌, ◌+◌, ◌≤◌, ℕ, List, [], ◌∷◌, true, inl, inr, arith, refl}
+use Rattle.std.specs.Prelude.{None, take}
 use Rattle.dt_orders_model.specs.declared.knowledge.Known.{Known}
 use Rattle.dt_orders_model.specs.declared.lanes.Word.TheVariants as word
 use Rattle.dt_orders_model.specs.declared.registers.RowState.TheVariants.{Done}
@@ -9,10 +9,10 @@ use Rattle.dt_orders_model.specs.Histories.{first_store}
 use Rattle.dt_orders_model.specs.Lanes.{lane_noted}
 use Rattle.dt_orders_model.specs.Stores.{Among, Entry, Store, is_on}
 use Rattle.dt_orders_laws.proofs.Lists.{either_of}
-use Rattle.dt_orders_world_laws.specs.Both.{AreAmong, Both, IsFirm, IsFresh, Runs, asks, begins, calls, dies, ends, gives, goes, handled, handles, hears, leaves, opens, stores, syncs, tells}
+use Rattle.dt_orders_world_laws.specs.Both.{AreAmong, IsFirm, IsFresh, Runs, asks, begins, calls, dies, ends, gives, goes, handled, handles, hears, leaves, opens, stores, syncs, tells}
 use Rattle.dt_orders_world_laws.specs.Clients.{Kept, Process, kept_of, put_at}
 use Rattle.dt_orders_world_laws.specs.Wires.{answers, executes, says}
-use Rattle.dt_orders_world_laws.specs.Worked.{answer, answered, asked, call_in, called, called_once, called_thrice, called_twice, done, executed_again, executed_once, fate_of_order, gave, greeted, greeting, its_store, kept_history, lost_call, lost_history, met, no_set_back, nothing_heard, opened, order, powered, question, second_call, start, stored, synced, third_call, told, unsure}
+use Rattle.dt_orders_world_laws.specs.Worked.{answer, answered, asked, called_once, called_thrice, called_twice, done, executed_again, executed_once, fate_of_order, gave, greeted, greeting, its_store, kept_history, lost_call, lost_history, met, no_set_back, nothing_heard, opened, order, powered, question, second_call, start, stored, synced, third_call, told, unsure}
 use Rattle.dt_orders_world_laws.proofs.Puts.{at_put}
 
 firm_one : (q : Known) (s : Store) → is_on q s ≡ true → IsFirm q (s ∷ [])

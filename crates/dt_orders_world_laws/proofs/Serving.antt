@@ -1,18 +1,17 @@
 -- A step of the server.
-use Rattle.std.proofs.Common.{◌≡◌, ◌≢◌, ◌+◌, ◌≤◌, ◌<◌, ◌∙◌, ℕ, List, [], ◌∷◌, Bool, true, false, ◌⊎◌, inl, inr, ap, sym, subst, arith, refl}
-use Rattle.std.specs.Prelude.{◌==◌, ◌&&◌, not, if◌then◌else◌, Option, Some, None}
+use Rattle.std.proofs.Common.{◌≡◌, ◌+◌, ◌∙◌, ℕ, List, [], ◌∷◌, Bool, true, false, ◌⊎◌, inl, inr, sym, subst, arith, refl}
+use Rattle.std.specs.Prelude.{◌&&◌, not, if◌then◌else◌, Some}
 use Rattle.dt_orders_model.specs.declared.knowledge.Known.{Known}
 use Rattle.dt_orders_model.specs.declared.lanes.Word.{Word}
 use Rattle.dt_orders_model.specs.declared.lanes.Word.TheVariants as word
 use Rattle.dt_orders_model.specs.declared.requests.Verdict.{Verdict}
 use Rattle.dt_orders_model.specs.declared.requests.Verdict.TheVariants as verdict
 use Rattle.dt_orders_model.specs.Closing.{IsClosed}
-use Rattle.dt_orders_model.specs.Fates.{WasExecuted, WasWithdrawn}
+use Rattle.dt_orders_model.specs.Fates.{WasExecuted}
 use Rattle.dt_orders_model.specs.Histories.{Commits, Goes, IsDrawnAnew, Note, Reached, World, asked_of, commit, commits, goes, known_or, noted, verdict_at}
 use Rattle.dt_orders_model.specs.Histories as history
 use Rattle.dt_orders_model.specs.Judging.{is_ask, is_forked, is_met, judged_by}
-use Rattle.dt_orders_model.specs.Stores.{Among, Entry, Name, Store, Withdrawn, begun, executed, heard, is_same, place_of, reopened, row_of, shared, touched, withdrawn}
-use Rattle.dt_orders_laws.proofs.Closed.{closed_by_itself}
+use Rattle.dt_orders_model.specs.Stores.{Among, Entry, Name, Store, begun, executed, heard, place_of, reopened, row_of, shared, touched, withdrawn}
 use Rattle.dt_orders_laws.proofs.Ends.{done_of_execution, done_of_row, never_of_row}
 use Rattle.dt_orders_laws.proofs.Lists.{at_put, either_of}
 use Rattle.dt_orders_laws.proofs.Moving.{lawful_of}
@@ -22,9 +21,8 @@ use Rattle.dt_orders_model.specs.Writing.{row_touched}
 use Rattle.dt_orders_world_laws.proofs.Puts.{none_is, some_is}
 use Rattle.dt_orders_laws.proofs.Settling.{Refuses, refused_is_closed, touched_number}
 use Rattle.dt_orders_world_laws.specs.Both.{AreAmong, Both, handled, opened_server}
-use Rattle.dt_orders_world_laws.specs.Clients.{Process}
 use Rattle.dt_orders_world_laws.specs.Wires.{Handles, Reply, Sent, Works, answers, begins, call_as, cancels, executes, fails, finishes, forgets, name_of, note_of, reply_to, says, touches, word_of}
-use Rattle.dt_orders_world_laws.proofs.Holding.{Holds, IsCall, IsOf, IsReply, SaysTrue, call_later, client_later, fate_later, reply_later}
+use Rattle.dt_orders_world_laws.proofs.Holding.{Holds, IsOf, IsReply, SaysTrue, call_later, client_later, fate_later, reply_later}
 
 -- A QUESTION is refused as forked, or read
 abbrev IsAsked : Verdict → Type 0

@@ -1,41 +1,37 @@
 -- Both ends, where no store is set back: each step keeps what their programs were told.
-use Rattle.std.proofs.Common.{◌≡◌, ◌≢◌, ◌+◌, ◌≤◌, ◌<◌, ◌∙◌, ℕ, List, [], ◌∷◌, Bool, true, false, ◌⊎◌, inl, inr, ap, sym, subst, arith, refl}
-use Rattle.std.specs.Prelude.{◌==◌, ◌&&◌, not, Option, Some, None}
+use Rattle.std.proofs.Common.{◌≡◌, ◌+◌, ◌≤◌, ◌∙◌, ℕ, List, [], ◌∷◌, Bool, true, false, ◌⊎◌, inl, inr, ap, sym, subst, arith, refl}
+use Rattle.std.specs.Prelude.{Option, Some, None}
 use Rattle.dt_orders_model.specs.declared.knowledge.Known.{Known}
 use Rattle.dt_orders_model.specs.declared.lanes.Called.{Called}
 use Rattle.dt_orders_model.specs.declared.lanes.Fate.{Fate}
 use Rattle.dt_orders_model.specs.declared.lanes.Fate.TheVariants as fate
 use Rattle.dt_orders_model.specs.declared.lanes.Lane.{Lane}
 use Rattle.dt_orders_model.specs.declared.lanes.Order.{Order}
-use Rattle.dt_orders_model.specs.declared.lanes.Sending.TheVariants as sending
 use Rattle.dt_orders_model.specs.declared.lanes.Word.{Word}
 use Rattle.dt_orders_model.specs.declared.lanes.Word.TheVariants as word
-use Rattle.dt_orders_model.specs.declared.requests.Kind.{Kind}
-use Rattle.dt_orders_model.specs.declared.requests.Kind.TheVariants as kind
 use Rattle.dt_orders_model.specs.Closing.{IsClosed}
 use Rattle.dt_orders_model.specs.Fates.{WasExecuted, WasWithdrawn}
-use Rattle.dt_orders_model.specs.Histories.{IsDrawnAnew, Note, World, commit, noted}
+use Rattle.dt_orders_model.specs.Histories.{Note, World, commit}
 use Rattle.dt_orders_model.specs.Judging.{is_ask}
-use Rattle.dt_orders_model.specs.Lanes.{call_of, given_of, is_ask_call, is_of, is_same_attempt, kind_of, lane_made, lane_noted, lane_unsure}
-use Rattle.dt_orders_model.specs.Stores.{Among, Name, Store, Withdrawn, heard, is_on, is_same, reopened, row_of, shared}
+use Rattle.dt_orders_model.specs.Lanes.{is_ask_call, is_of, is_same_attempt}
+use Rattle.dt_orders_model.specs.Stores.{Among, Name, Store, Withdrawn, heard, is_on, reopened, row_of}
 use Rattle.dt_orders_laws.proofs.Ends.{done_among}
 use Rattle.dt_orders_laws.proofs.Lawful.{Extends, Lawful, extends_itself}
-use Rattle.dt_orders_laws.proofs.Lists.{either_of, executed_more, same_itself}
+use Rattle.dt_orders_laws.proofs.Lists.{either_of, executed_more}
 use Rattle.dt_orders_laws.proofs.Moving.{lawful_of}
 use Rattle.dt_orders_laws.proofs.Settling.{closed_lower}
 use Rattle.dt_orders_laws.proofs.Sound.{Sound}
-use Rattle.dt_orders_world_laws.specs.Both.{AreAmong, Both, IsFirm, MayAsk, Told, handled, makes, opened_server, with_client}
-use Rattle.dt_orders_world_laws.specs.Clients.{Ended, Kept, Process, asked_on, attempt_of, called_on, kept_of, name_on, noted_on, opened_on, put_at, question_of, recorded, with_lane}
-use Rattle.dt_orders_world_laws.specs.Wires.{Handles, Reply, Sent, Works, finishes, forgets, name_of, note_of, reply_to}
+use Rattle.dt_orders_world_laws.specs.Both.{AreAmong, Both, IsFirm, Told, handled, opened_server, with_client}
+use Rattle.dt_orders_world_laws.specs.Clients.{Ended, Process, name_on}
+use Rattle.dt_orders_world_laws.specs.Wires.{Handles, Reply, Sent, Works, finishes, forgets, name_of, reply_to}
 use Rattle.dt_orders_world_laws.proofs.Asking.{asks_not}
 use Rattle.dt_orders_world_laws.proofs.Firm.{GoesOn, firm_on, on_below, on_itself, on_next, on_opened, on_shared}
 use Rattle.dt_orders_world_laws.proofs.Good.{Brings, Good, IsToldBy, MayBe, MindIs, Steps}
-use Rattle.dt_orders_world_laws.proofs.Holding.{Holds, IsGiven, IsReply, SaysTrue}
+use Rattle.dt_orders_world_laws.proofs.Holding.{Holds, IsReply, SaysTrue}
 use Rattle.dt_orders_world_laws.proofs.Keeping.{its_call, its_name}
-use Rattle.dt_orders_world_laws.proofs.Orderly.{ByClock, IsCallOf, LaneOk, NamedBy, OrderOk, Orderly, called_in, lane_in, orderly_more, waits_in}
-use Rattle.dt_orders_world_laws.proofs.Puts.{apart, at_put, at_put_at, none_is, some_is}
-use Rattle.dt_orders_world_laws.proofs.Serving.{Next, handling, of_order}
-use Rattle.dt_orders_world_laws.proofs.Stepping.{call_is, fresh_by, gave_is, given, note}
+use Rattle.dt_orders_world_laws.proofs.Orderly.{ByClock, IsCallOf, OrderOk, orderly_more}
+use Rattle.dt_orders_world_laws.proofs.Puts.{at_put}
+use Rattle.dt_orders_world_laws.proofs.Serving.{Next, handling}
 
 -- WHAT A FATE SAYS IS SO, and stays so, at each store that a crash may leave
 abbrev pub SealedAs : List Store → List Sent → Ended → Fate → Type 0

@@ -1,6 +1,6 @@
 -- Each step of both ends keeps what holds.
 use Rattle.std.proofs.Common.{◌≡◌, ◌≢◌, ◌+◌, ◌≤◌, ◌<◌, ◌∙◌, ℕ, List, [], ◌∷◌, Bool, true, false, ◌⊎◌, inl, inr, ap, sym, subst, arith, refl}
-use Rattle.std.specs.Prelude.{◌==◌, ◌&&◌, max, not, nat_le, if◌then◌else◌, Option, Some, None}
+use Rattle.std.specs.Prelude.{◌==◌, ◌&&◌, not, nat_le, if◌then◌else◌, Option, Some, None}
 use Rattle.std.proofs.lemmas.Bool.Decides.{nat_tests}
 use Rattle.dt_orders_model.specs.declared.knowledge.Known.{Known}
 use Rattle.dt_orders_model.specs.declared.lanes.Attempt.{Attempt}
@@ -13,16 +13,15 @@ use Rattle.dt_orders_model.specs.declared.lanes.Order.{Order}
 use Rattle.dt_orders_model.specs.declared.lanes.Sending.TheVariants as sending
 use Rattle.dt_orders_model.specs.Histories.{IsNew, Note, Reached, World, goes, noted}
 use Rattle.dt_orders_model.specs.Histories as history
-use Rattle.dt_orders_model.specs.Judging.{is_ask}
 use Rattle.dt_orders_model.specs.Lanes.{call_by, call_of, called_of, given_by, given_of, hearing_of, known_after, lane_made, lane_noted, lane_unsure}
-use Rattle.dt_orders_model.specs.Stores.{Among, Name, Store, heard, is_same}
+use Rattle.dt_orders_model.specs.Stores.{Among, Name, Store, is_same}
 use Rattle.dt_orders_laws.proofs.Lists.{alike_of, either_of}
 use Rattle.dt_orders_world_laws.specs.Both.{AreAmong, Both, IsFresh, MayAsk, Rules, Runs, Step, Told, adopts, asks, begins, calls, cancels, dies, ends, first_both, gives, handles, hears, leaves, makes, opens, restores, set_back, stores, syncs, tells, with_client, works}
 use Rattle.dt_orders_world_laws.specs.Both as both
 use Rattle.dt_orders_world_laws.specs.Clients.{Ended, Kept, Process, asked_on, attempt_of, called_on, cancelled_on, heard_as, heard_on, left_on, name_on, noted_on, opened_on, put_at, question_of, recorded, with_lane}
 use Rattle.dt_orders_world_laws.specs.Wires.{Reply, Sent}
-use Rattle.dt_orders_world_laws.proofs.Holding.{Holds, IsCall, IsClient, IsGiven, IsMade, IsMind, IsOf, IsReply, IsTrueFate, MayKnow, WasHeard, given_later, heard_later, may_later, mind_later, reply_later, top, top_of}
-use Rattle.dt_orders_world_laws.proofs.Keeping.{adopted_is, cancelled_is, ended_is, heard_is, opened_is, recorded_is, same_lane_is, stored_is, waits_is, with_lane_is}
+use Rattle.dt_orders_world_laws.proofs.Holding.{Holds, IsCall, IsClient, IsGiven, IsMade, IsOf, IsTrueFate, MayKnow, WasHeard, given_later, mind_later, reply_later, top, top_of}
+use Rattle.dt_orders_world_laws.proofs.Keeping.{adopted_is, cancelled_is, ended_is, heard_is, opened_is, recorded_is, same_lane_is, stored_is, waits_is}
 use Rattle.dt_orders_world_laws.proofs.Puts.{apart, at_put_at, none_is, some_is}
 use Rattle.dt_orders_world_laws.proofs.Serving.{handled_holds, left_holds, opened_holds, synced_holds, works_holds}
 

@@ -1,5 +1,5 @@
 -- Where the server is strict and its store may be set back: each step of a client.
-use Rattle.std.proofs.Common.{◌≡◌, ◌≢◌, ◌+◌, ◌≤◌, ◌<◌, ◌∙◌, ℕ, List, [], ◌∷◌, Bool, true, false, ◌⊎◌, inl, inr, ap, sym, subst, arith, refl}
+use Rattle.std.proofs.Common.{◌≡◌, ◌≢◌, ◌+◌, ◌≤◌, ◌∙◌, ℕ, List, [], ◌∷◌, Bool, true, false, ◌⊎◌, inl, inr, ap, sym, subst, arith, refl}
 use Rattle.std.specs.Prelude.{◌==◌, ◌&&◌, ◌||◌, nat_le, not, if◌then◌else◌, Option, Some, None}
 use Rattle.std.proofs.lemmas.Bool.Decides.{nat_tests}
 use Rattle.dt_orders_model.specs.declared.knowledge.Known.{Known}
@@ -18,8 +18,8 @@ use Rattle.dt_orders_model.specs.Closing.{IsClosed}
 use Rattle.dt_orders_model.specs.Fates.{WasWithdrawn}
 use Rattle.dt_orders_model.specs.Histories.{Note, noted}
 use Rattle.dt_orders_model.specs.Judging.{is_ask, is_met}
-use Rattle.dt_orders_model.specs.Lanes.{adopted_by, call_of, given_of, hearing_of, is_ask_call, is_fork, is_now, is_of, is_same_attempt, is_same_known, is_same_opening, is_usable, known_after, newer}
-use Rattle.dt_orders_model.specs.Stores.{Among, Name, Store, is_on, row_of, shared}
+use Rattle.dt_orders_model.specs.Lanes.{adopted_by, call_of, given_of, hearing_of, is_ask_call, is_fork, is_now, is_of, is_same_attempt, is_same_opening, is_usable, known_after, newer}
+use Rattle.dt_orders_model.specs.Stores.{Among, Name, Store, row_of, shared}
 use Rattle.dt_orders_laws.proofs.Lists.{either_of}
 use Rattle.dt_orders_laws.proofs.Settling.{closed_lower}
 use Rattle.dt_orders_world_laws.specs.Both.{AreAmong, Both, IsFresh, MayAsk, Rules, Runs, Step, Told, adopts, asks, begins, calls, cancels, dies, ends, first_both, gives, handles, hears, leaves, makes, opens, restores, set_back, stores, syncs, tells, with_client, works}
@@ -27,10 +27,10 @@ use Rattle.dt_orders_world_laws.specs.Both as both
 use Rattle.dt_orders_world_laws.specs.Clients.{Ended, Kept, Process, adopted_on, asked_on, attempt_of, called_on, cancelled_on, heard_as, heard_on, left_on, name_on, noted_on, opened_on, put_at, question_of, recorded, with_lane}
 use Rattle.dt_orders_world_laws.specs.Wires.{Reply, Sent, name_of}
 use Rattle.dt_orders_world_laws.proofs.Asking.{asks_not}
-use Rattle.dt_orders_world_laws.proofs.Facing.{AnyCommit, Beside, FacingGood, Faces, InTurn, IsNow, Knows, MetBy, SaysNow, Shut, ShutAs, handled_faces, opened_faces, same_server_faces, works_faces}
+use Rattle.dt_orders_world_laws.proofs.Facing.{AnyCommit, Beside, FacingGood, Faces, InTurn, Knows, MetBy, SaysNow, Shut, ShutAs, handled_faces, opened_faces, same_server_faces, works_faces}
 use Rattle.dt_orders_world_laws.proofs.Firm.{on_shared}
-use Rattle.dt_orders_world_laws.proofs.Good.{Brings, Good, IsToldBy, MayBe, Steps, adopted_ok, cancelled_ok, ended_ok, heard_ok, opened_ok, stored_ok, told_left}
-use Rattle.dt_orders_world_laws.proofs.Holding.{Holds, IsGiven, IsMade}
+use Rattle.dt_orders_world_laws.proofs.Good.{Brings, IsToldBy, Steps, adopted_ok, cancelled_ok, ended_ok, heard_ok, opened_ok, stored_ok, told_left}
+use Rattle.dt_orders_world_laws.proofs.Holding.{Holds}
 use Rattle.dt_orders_world_laws.proofs.Keeping.{its_call, its_name}
 use Rattle.dt_orders_world_laws.proofs.Noting.{asker_good, beside_question, its_lane, its_note, maker_is, noted_good, noter_good, other_good, others_tag, told_noted}
 use Rattle.dt_orders_world_laws.proofs.Orderly.{IsCallOf, OrderOk}

@@ -1,7 +1,6 @@
 -- A client and its store.
-use Rattle.std.specs.Prelude.{◌≡◌, ◌≤◌, ◌+◌, ◌==◌, ℕ, Bool, false, if◌then◌else◌, List, [], ◌∷◌, Option, Some, None}
+use Rattle.std.specs.Prelude.{◌+◌, ◌==◌, ℕ, false, if◌then◌else◌, List, [], ◌∷◌, Option, Some, None}
 use Rattle.dt_orders_model.specs.declared.knowledge.Known.{Known}
-use Rattle.dt_orders_model.specs.declared.lanes.Answer.{Answer}
 use Rattle.dt_orders_model.specs.declared.lanes.Attempt.{Attempt}
 use Rattle.dt_orders_model.specs.declared.lanes.Called.{Called}
 use Rattle.dt_orders_model.specs.declared.lanes.Client.{Client}

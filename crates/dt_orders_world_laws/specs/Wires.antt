@@ -1,5 +1,5 @@
 -- What is on the wire between clients and a server, and what the server makes of a call.
-use Rattle.std.specs.Prelude.{◌≡◌, ◌≢◌, ℕ, Bool, List, [], ◌∷◌, Option, Some, None}
+use Rattle.std.specs.Prelude.{◌≡◌, ◌≢◌, ℕ, Bool, List, [], Option, Some, None}
 use Rattle.dt_orders_model.specs.declared.knowledge.Known.{Known}
 use Rattle.dt_orders_model.specs.declared.lanes.Answer.{Answer}
 use Rattle.dt_orders_model.specs.declared.lanes.Called.{Called}

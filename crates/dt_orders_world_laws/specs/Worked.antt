@@ -1,15 +1,13 @@
 -- A worked run of both ends: a client meets its server and gives an order. The server executes it and loses power before it syncs. The client calls again; the server executes the order, and that is synced. The client dies before it hears of that, calls once more, hears that its order is done, and its program is told.
-use Rattle.std.specs.Prelude.{ℕ, ◌+◌, false, List, [], ◌∷◌, Option, Some, None, take}
+use Rattle.std.specs.Prelude.{◌+◌, false, [], ◌∷◌, Some, None, take}
 use Rattle.dt_orders_model.specs.declared.knowledge.Known.{Known}
-use Rattle.dt_orders_model.specs.declared.lanes.Called.{Called}
 use Rattle.dt_orders_model.specs.declared.lanes.Fate.TheVariants as fate
-use Rattle.dt_orders_model.specs.declared.lanes.Lane.{Lane}
 use Rattle.dt_orders_model.specs.declared.lanes.Order.{Order}
 use Rattle.dt_orders_model.specs.declared.lanes.Word.TheVariants as word
 use Rattle.dt_orders_model.specs.Histories.{World, commit, first_store, noted}
 use Rattle.dt_orders_model.specs.Lanes.{called_of, lane_noted}
-use Rattle.dt_orders_model.specs.Stores.{Store, executed, heard}
-use Rattle.dt_orders_world_laws.specs.Both.{Both, Rules, Told, first_both, handled, makes, opened_server, with_client}
+use Rattle.dt_orders_model.specs.Stores.{executed, heard}
+use Rattle.dt_orders_world_laws.specs.Both.{Both, Rules, first_both, handled, makes, opened_server, with_client}
 use Rattle.dt_orders_world_laws.specs.Clients.{Ended, Kept, Process, asked_on, attempt_of, called_on, ended_on, heard_on, kept_of, name_on, noted_on, opened_on, question_of}
 use Rattle.dt_orders_world_laws.specs.Wires.{Reply, Sent, name_of, reply_to}
 
