@@ -1,0 +1,17 @@
+pub mod Puts
+pub mod Holding
+pub mod Serving
+pub mod Keeping
+pub mod Stepping
+pub mod Orderly
+pub mod Firm
+pub mod Good
+pub mod Asking
+pub mod Noting
+pub mod Staying
+pub mod Acting
+pub mod Facing
+pub mod Strict
+pub mod Called
+pub mod Ends
+pub mod Running

@@ -1,0 +1,4 @@
+pub mod Wires
+pub mod Clients
+pub mod Both
+pub mod Worked
