@@ -1,4 +1,3 @@
-use Rattle.std.proofs.Common.{refl}
 use Rattle.dt_mailbox_laws.proofs.Gaps.{follow_directly, none_lost}
 use Rattle.dt_mailbox_laws.proofs.message_without_a_gap_directly_follows.Goals as goal
 
