@@ -200,7 +200,7 @@ async def wire_raises(bank: Bank, given: orders.AsyncOrders) -> str:
 
 
 async def set_back_twice(bank: Bank, given: orders.AsyncOrders) -> str:
-    """Several orders meet an alarm at once. Each alarm names its own orders, and a second one not those of the first."""
+    """Several orders meet an alarm at once. Each alarm names its own orders, and a second one not the first one's."""
     told = []
     for turn in range(2):
         await given.give(b"kept %d" % turn)
@@ -261,7 +261,8 @@ async def done_after_the_alarm(bank: Bank, given: orders.AsyncOrders) -> str:
     await given.adopt()
     for order in given.unsettled:
         await given.settle(order)
-    return "" if found[0] == orders.Done(b"did gone") and named == [[b"gone first", b"gone"]] else f"{found}, named: {named}"
+    is_right = found[0] == orders.Done(b"did gone") and named == [[b"gone first", b"gone"]]
+    return "" if is_right else f"{found}, named: {named}"
 
 
 CASES: dict[str, Callable[[Bank, orders.AsyncOrders], Awaitable[str]]] = {
