@@ -26,7 +26,7 @@ class Room(NamedTuple):
 
 ROOMS = (
     Room("Basics", "limits, times, octets, deadlines", 0, -1,
-         "dt_units dt_items dt_params dt_fingerprint dt_cases dt_timers"),
+         "dt_units dt_items dt_params dt_fingerprint dt_cases dt_timers dt_ordered"),
     Room("A flow", "one sender, one receiver: definitions, laws, code", 1, 0,
          "dt_layout dt_flow_model dt_flow_laws dt_send dt_recv dt_flow_tests"),
     Room("Texts", "logs, schedules, scripts: written and read", 1, 1,
