@@ -1,5 +1,5 @@
 -- Where the wire keeps the order of calls: an order that is settled is handed out no more.
-use Rattle.std.proofs.Common.{◌≡◌, ◌≢◌, ◌+◌, ◌≤◌, ◌<◌, ◌∙◌, ℕ, List, [], ◌∷◌, Bool, true, false, ◌⊎◌, inl, inr, ap, sym, subst, arith, refl, length}
+use Rattle.std.proofs.Common.{◌≡◌, ◌≢◌, ◌+◌, ◌∙◌, ℕ, List, [], ◌∷◌, Bool, true, false, ◌⊎◌, inl, inr, ap, sym, subst, arith, refl, length}
 use Rattle.std.specs.Prelude.{Option, Some, None}
 use Rattle.dt_orders_model.specs.declared.knowledge.Known.{Known}
 use Rattle.dt_orders_model.specs.declared.lanes.Attempt.{Attempt}
@@ -13,23 +13,23 @@ use Rattle.dt_orders_model.specs.declared.lanes.Word.TheVariants as word
 use Rattle.dt_orders_model.specs.Histories.{Note, World, noted}
 use Rattle.dt_orders_model.specs.Judging.{is_ask}
 use Rattle.dt_orders_model.specs.Lanes.{call_of, given_of, hearing_of, is_ask_call, is_of, is_same_attempt}
-use Rattle.dt_orders_model.specs.Stores.{Among, Name, Store, heard}
+use Rattle.dt_orders_model.specs.Stores.{Among, Name, heard}
 use Rattle.dt_orders_laws.proofs.Lists.{either_of}
 use Rattle.dt_orders_world_laws.specs.Both.{AreAmong, Both, MayAsk, Rules, Runs, Step, Told, adopts, asks, calls, cancels, dies, ends, first_both, gives, handled, handles, hears, leaves, makes, opens, restores, set_back, stores, syncs, tells, with_client, works}
 use Rattle.dt_orders_world_laws.specs.Both as both
-use Rattle.dt_orders_world_laws.specs.Clients.{Ended, Kept, Process, asked_on, attempt_of, called_on, cancelled_on, ended_on, heard_on, name_on, noted_on, opened_on, put_at, question_of}
+use Rattle.dt_orders_world_laws.specs.Clients.{Ended, Process, asked_on, attempt_of, called_on, cancelled_on, ended_on, heard_on, name_on, noted_on, put_at, question_of}
 use Rattle.dt_orders_world_laws.specs.Ordered.{MayComeNext, RunsInOrder, WasMadeAfter, begins, goes, hands_out}
 use Rattle.dt_orders_world_laws.specs.Wires.{Handles, Reply, Sent, name_of, reply_to}
 use Rattle.dt_orders_world_laws.proofs.Asking.{asks_not}
-use Rattle.dt_orders_world_laws.proofs.Facing.{AnyCommit, Faces, good_relates}
-use Rattle.dt_orders_world_laws.proofs.Good.{Brings, EndedBy, Good, Steps, adopted_ok, cancelled_ok, ended_ok, heard_ok, opened_ok, stored_ok}
+use Rattle.dt_orders_world_laws.proofs.Facing.{AnyCommit, good_relates}
+use Rattle.dt_orders_world_laws.proofs.Good.{Brings, Good, adopted_ok, cancelled_ok, ended_ok, heard_ok, opened_ok, stored_ok}
 use Rattle.dt_orders_world_laws.proofs.Holding.{Holds}
 use Rattle.dt_orders_world_laws.proofs.Keeping.{its_call}
 use Rattle.dt_orders_world_laws.proofs.Noting.{asker_good, beside_question, its_lane, its_note, maker_is, noted_good, noter_good, other_good, others_tag}
 use Rattle.dt_orders_world_laws.proofs.Orderly.{IsCallOf}
 use Rattle.dt_orders_world_laws.proofs.Puts.{apart, at_put, at_put_at, none_is, some_is}
 use Rattle.dt_orders_world_laws.proofs.Serving.{handling}
-use Rattle.dt_orders_world_laws.proofs.Stepping.{call_is, gave_is, holds_of, nonces_cancelled, nonces_heard, step_holds}
+use Rattle.dt_orders_world_laws.proofs.Stepping.{call_is, gave_is, holds_of, nonces_cancelled, nonces_heard}
 use Rattle.dt_orders_world_laws.proofs.Strict.{cancelled_waits, faces_of, heard_waits}
 
 -- a history in order is one
