@@ -1,5 +1,5 @@
 -- What a program is told.
-use Rattle.std.proofs.Common.{◌≡◌, ◌≢◌, ◌≤◌, ℕ, Bool, true, false, ◌⊎◌, inl, inr, ap, sym, subst, arith, refl}
+use Rattle.std.proofs.Common.{List, ◌≡◌, ◌≢◌, ◌≤◌, ℕ, Bool, true, false, ◌⊎◌, inl, inr, ap, sym, subst, arith, refl}
 use Rattle.std.specs.Prelude.{◌&&◌, min, not, if◌then◌else◌, Some}
 use Rattle.dt_orders_model.specs.declared.lanes.Fate.{Fate}
 use Rattle.dt_orders_model.specs.declared.lanes.Fate.TheVariants as fate
@@ -17,6 +17,7 @@ use Rattle.dt_orders_laws.proofs.Lists.{same_itself}
 use Rattle.dt_orders_laws.proofs.Moving.{lawful_of, opened_by}
 use Rattle.dt_orders_laws.proofs.Settling.{closed_lower}
 use Rattle.dt_orders_world_laws.specs.Both.{Both, Rules, Runs, Told}
+use Rattle.dt_orders_world_laws.specs.Ordered.{MayComeNext, RunsInOrder}
 use Rattle.dt_orders_world_laws.specs.Wires.{Sent, call_as, name_of, note_of}
 use Rattle.dt_orders_world_laws.proofs.Acting.{AreKept, stays_of}
 use Rattle.dt_orders_world_laws.proofs.Called.{uncalled_is_not_executed}
@@ -25,6 +26,7 @@ use Rattle.dt_orders_world_laws.proofs.Puts.{apart}
 use Rattle.dt_orders_world_laws.proofs.Staying.{SealedAs}
 use Rattle.dt_orders_world_laws.proofs.Strict.{faces_of}
 use Rattle.dt_orders_world_laws.proofs.Holding.{DoneAt, FateIs}
+use Rattle.dt_orders_world_laws.proofs.InOrder.{settled_in_order}
 use Rattle.dt_orders_world_laws.proofs.Orderly.{IsCallOf}
 use Rattle.dt_orders_world_laws.proofs.Serving.{of_order}
 use Rattle.dt_orders_world_laws.proofs.Stepping.{holds_of}
@@ -139,3 +141,7 @@ module _ (rules : Rules) (w : Both) (t : Told) (c : Sent) (clients : rules.clien
 
 pub settled : (rules : Rules) (w : Both) (t : Told) (c : Sent) → rules.clients ≡ false → Runs rules w → Among t w.told → (t.ended.fate ≡ fate.Never) ⊎ (t.ended.fate ≡ fate.Unknown) → Among c w.sent → name_of c ≡ t.ended.name → verdict_at true w.server.present (call_as c) ≢ verdict.Execute
 settled rules w t c k r m f n name v = by_fate rules w t c k r m n name v f
+
+-- NEVER AND UNKNOWN over set backs, where the wire keeps the order of calls
+pub settled_in_their_order : (rules : Rules) (w : Both) (out : List Sent) (t : Told) (c : Sent) → rules.clients ≡ false → RunsInOrder rules w out → Among t w.told → (t.ended.fate ≡ fate.Never) ⊎ (t.ended.fate ≡ fate.Unknown) → Among c w.sent → is_ask c.called.kind ≡ false → name_of c ≡ t.ended.name → MayComeNext w.sent out c → ⊥
+settled_in_their_order rules w out t c k r m f n kind name next = settled_in_order rules w out t c k r m f n (record { kind = kind; name = name }) next

@@ -1,6 +1,6 @@
 -- A client that is in order, whatever is held of the commits that it goes by and of its fates.
 use Rattle.std.proofs.Common.{◌≡◌, ◌≢◌, ◌+◌, ◌≤◌, ◌∙◌, ℕ, List, [], ◌∷◌, Bool, true, false, inr, ap, sym, subst, arith, refl}
-use Rattle.std.specs.Prelude.{◌==◌, ◌&&◌, nat_le, not, if◌then◌else◌, Option, Some, None}
+use Rattle.std.specs.Prelude.{◌==◌, ◌&&◌, nat_le, if◌then◌else◌, Option, Some, None}
 use Rattle.dt_orders_model.specs.declared.knowledge.Known.{Known}
 use Rattle.dt_orders_model.specs.declared.lanes.Called.{Called}
 use Rattle.dt_orders_model.specs.declared.lanes.Client.{Client}
@@ -20,6 +20,7 @@ use Rattle.dt_orders_laws.proofs.Lists.{either_of}
 use Rattle.dt_orders_world_laws.specs.Both.{AreAmong}
 use Rattle.dt_orders_world_laws.specs.Clients.{Ended, Kept, Process, adopted_on, cancelled_on, ended_by, ended_on, heard_as, heard_on, kept_of, left_on, name_on, opened_on, put_at, recorded, with_lane}
 use Rattle.dt_orders_world_laws.specs.Wires.{Reply, Sent}
+use Rattle.dt_orders_world_laws.proofs.Hearings.{not_once, used_same}
 use Rattle.dt_orders_world_laws.proofs.Holding.{IsGiven}
 use Rattle.dt_orders_world_laws.proofs.Orderly.{IsCallOf, OrderOk, Orderly, fate_in, free_in, knows_in, lane_in, opened_in, recorded_in, same_in, stored_in, waits_in}
 use Rattle.dt_orders_world_laws.proofs.Puts.{at_put, at_put_at, none_is, put_here, some_is}
@@ -250,18 +251,6 @@ module _ (R : Sent → Known → Type 0) (F : Known → Type 0) (S : Ended → T
     used_case true None is of same used = waits_with None
     used_case false None is of same used = waits_with None
     used_case false (Some o) is of same used = waits_with (Some o)
-
-    not_once : (only one : Bool) → one ≡ false → false ≡ (only && one)
-    not_once true one e = sym e
-    not_once false one e = refl
-
-    abbrev IsUsed : Hearing → Type 0
-    IsUsed hearing.Used = Unit {0}
-    IsUsed _ = ⊥
-
-    used_same : (t : Bool) (x : Hearing) → (if not t then hearing.Strange else x) ≡ hearing.Used → t ≡ true
-    used_same true x e = refl
-    used_same false x e = let it : IsUsed hearing.Strange = subst IsUsed (sym e) tt in absurd it
 
     heard_case : (h : Hearing) → hearing_of p.client.known c r.answer ≡ h → Steps R F S notes sent p (heard_as h p lane c r)
     heard_case hearing.Strange e = record { good = ended_ok p lane g; keeps = λ f t. record { there = t.there; kept = t.kept } }

@@ -1,6 +1,6 @@
 -- A step of a client, by itself.
 use Rattle.std.proofs.Common.{◌≡◌, ◌≢◌, ◌+◌, ◌≤◌, ◌∙◌, ℕ, List, [], ◌∷◌, Bool, true, false, inl, inr, ap, sym, subst, arith, refl}
-use Rattle.std.specs.Prelude.{◌==◌, ◌&&◌, max, nat_le, not, if◌then◌else◌, Option, Some, None}
+use Rattle.std.specs.Prelude.{◌==◌, ◌&&◌, max, nat_le, if◌then◌else◌, Option, Some, None}
 use Rattle.std.proofs.lemmas.Bool.Decides.{nat_tests}
 use Rattle.dt_orders_model.specs.declared.knowledge.Known.{Known}
 use Rattle.dt_orders_model.specs.declared.lanes.Called.{Called}
@@ -21,6 +21,7 @@ use Rattle.dt_orders_model.specs.Stores.{Among, Name, Store, heard}
 use Rattle.dt_orders_laws.proofs.Lists.{either_of}
 use Rattle.dt_orders_world_laws.specs.Clients.{Ended, Kept, Process, adopted_on, cancelled_on, ended_by, ended_on, heard_as, heard_on, kept_of, left_on, name_on, opened_on, put_at, recorded, with_lane}
 use Rattle.dt_orders_world_laws.specs.Wires.{Reply, Sent, name_of}
+use Rattle.dt_orders_world_laws.proofs.Hearings.{not_once, used_same}
 use Rattle.dt_orders_world_laws.proofs.Holding.{IsClient, IsGiven, IsMade, IsMind, IsReply, IsTrueFate, MayKnow, SaysTrue, WasHeard, top, top_of}
 use Rattle.dt_orders_world_laws.proofs.Puts.{at_put, at_put_at, attempt_is}
 
@@ -233,18 +234,6 @@ module _ (notes : List Note) (past : List Store) (sent : List Sent) where
     used_case true None is of same = left_is listener lane (lane_unsure (p.lanes lane)) None listener_is (holds.mind.orders lane) (omega arith) tt
     used_case false None is of same = left_is listener lane (lane_unsure (p.lanes lane)) None listener_is (holds.mind.orders lane) (omega arith) tt
     used_case false (Some o) is of same = left_is listener lane (lane_unsure (p.lanes lane)) None listener_is (holds.mind.orders lane) (omega arith) tt
-
-    pub not_once : (only once : Bool) → once ≡ false → false ≡ (only && once)
-    not_once true once e = sym e
-    not_once false once e = refl
-
-    abbrev pub IsUsed : Hearing → Type 0
-    IsUsed hearing.Used = Unit {0}
-    IsUsed _ = ⊥
-
-    pub used_same : (t : Bool) (x : Hearing) → (if not t then hearing.Strange else x) ≡ hearing.Used → t ≡ true
-    used_same true x e = refl
-    used_same false x e = let it : IsUsed hearing.Strange = subst IsUsed (sym e) tt in absurd it
 
     heard_case : (h : Hearing) → hearing_of p.client.known c r.answer ≡ h → Is (heard_as h p lane c r)
     heard_case hearing.Strange e = ended_is p lane holds

@@ -1,6 +1,7 @@
 pub mod Puts
 pub mod Holding
 pub mod Serving
+pub mod Hearings
 pub mod Keeping
 pub mod Stepping
 pub mod Orderly
@@ -12,6 +13,7 @@ pub mod Staying
 pub mod Acting
 pub mod Facing
 pub mod Strict
+pub mod InOrder
 pub mod Called
 pub mod Ends
 pub mod Running

@@ -1,6 +1,6 @@
 -- Where the server is strict and its store may be set back: each step of a client.
 use Rattle.std.proofs.Common.{◌≡◌, ◌≢◌, ◌+◌, ◌≤◌, ◌∙◌, ℕ, List, [], ◌∷◌, Bool, true, false, ◌⊎◌, inl, inr, ap, sym, subst, arith, refl}
-use Rattle.std.specs.Prelude.{◌==◌, ◌&&◌, ◌||◌, nat_le, not, if◌then◌else◌, Option, Some, None}
+use Rattle.std.specs.Prelude.{◌==◌, ◌&&◌, ◌||◌, nat_le, if◌then◌else◌, Option, Some, None}
 use Rattle.std.proofs.lemmas.Bool.Decides.{nat_tests}
 use Rattle.dt_orders_model.specs.declared.knowledge.Known.{Known}
 use Rattle.dt_orders_model.specs.declared.lanes.Attempt.{Attempt}
@@ -30,6 +30,7 @@ use Rattle.dt_orders_world_laws.proofs.Asking.{asks_not}
 use Rattle.dt_orders_world_laws.proofs.Facing.{AnyCommit, Beside, FacingGood, Faces, InTurn, Knows, MetBy, SaysNow, Shut, ShutAs, handled_faces, opened_faces, same_server_faces, works_faces}
 use Rattle.dt_orders_world_laws.proofs.Firm.{on_shared}
 use Rattle.dt_orders_world_laws.proofs.Good.{Brings, IsToldBy, Steps, adopted_ok, cancelled_ok, ended_ok, heard_ok, opened_ok, stored_ok, told_left}
+use Rattle.dt_orders_world_laws.proofs.Hearings.{alarm_tests, used_same, used_tests}
 use Rattle.dt_orders_world_laws.proofs.Holding.{Holds}
 use Rattle.dt_orders_world_laws.proofs.Keeping.{its_call, its_name}
 use Rattle.dt_orders_world_laws.proofs.Noting.{asker_good, beside_question, its_lane, its_note, maker_is, noted_good, noter_good, other_good, others_tag, told_noted}
@@ -71,30 +72,6 @@ dies_faces w i nonce k h x m fresh = record {
     not_its : (d : Sent) → Among d w.sent → d.called.attempt.nonce ≡ nonce → ⊥
     not_its d n e = let o = h.callers d n in fresh o.client (subst (λ (y : ℕ). Among y (w.clients o.client).nonces) e o.there)
 
--- what a hearing says
-abbrev IsHearing : Hearing → Hearing → Type 0
-IsHearing hearing.Used hearing.Used = Unit {0}
-IsHearing hearing.Alarm hearing.Alarm = Unit {0}
-IsHearing _ _ = ⊥
-
-used_tests : (t f n u : Bool) → (if not t then hearing.Strange else if f then (if n then hearing.Alarm else hearing.Unsure) else if u then hearing.Used else hearing.Unsure) ≡ hearing.Used → u ≡ true
-used_tests false f n u e = let y : IsHearing hearing.Used hearing.Strange = subst (λ (z : Hearing). IsHearing hearing.Used z) (sym e) tt in absurd y
-used_tests true true true u e = let y : IsHearing hearing.Used hearing.Alarm = subst (λ (z : Hearing). IsHearing hearing.Used z) (sym e) tt in absurd y
-used_tests true true false u e = let y : IsHearing hearing.Used hearing.Unsure = subst (λ (z : Hearing). IsHearing hearing.Used z) (sym e) tt in absurd y
-used_tests true false n true e = refl
-used_tests true false n false e = let y : IsHearing hearing.Used hearing.Unsure = subst (λ (z : Hearing). IsHearing hearing.Used z) (sym e) tt in absurd y
-
-alarm_tests : (t f n u : Bool) → (if not t then hearing.Strange else if f then (if n then hearing.Alarm else hearing.Unsure) else if u then hearing.Used else hearing.Unsure) ≡ hearing.Alarm → (t ≡ true) × (n ≡ true)
-alarm_tests false f n u e = let y : IsHearing hearing.Alarm hearing.Strange = subst (λ (z : Hearing). IsHearing hearing.Alarm z) (sym e) tt in absurd y
-alarm_tests true true true u e = (refl, refl)
-alarm_tests true true false u e = let y : IsHearing hearing.Alarm hearing.Unsure = subst (λ (z : Hearing). IsHearing hearing.Alarm z) (sym e) tt in absurd y
-alarm_tests true false n true e = let y : IsHearing hearing.Alarm hearing.Used = subst (λ (z : Hearing). IsHearing hearing.Alarm z) (sym e) tt in absurd y
-alarm_tests true false n false e = let y : IsHearing hearing.Alarm hearing.Unsure = subst (λ (z : Hearing). IsHearing hearing.Alarm z) (sym e) tt in absurd y
-
-same_tests : (t : Bool) (y : Hearing) → (if not t then hearing.Strange else y) ≡ hearing.Used → t ≡ true
-same_tests true y e = refl
-same_tests false y e = let z : IsHearing hearing.Used hearing.Strange = subst (λ (z : Hearing). IsHearing hearing.Used z) (sym e) tt in absurd z
-
 -- what is left of a lane leaves the rest
 left_client : (q : Process) (lane : ℕ) (l : Lane) (e : Option Ended) → (left_on q lane l e).client ≡ q.client
 left_client q lane l None = by (l.record_number == q.number + 1)
@@ -115,8 +92,29 @@ left_waits q lane l (Some e) = refl
 cancelled_client : (p : Process) (lane : ℕ) → (cancelled_on p lane).client ≡ p.client
 cancelled_client p lane = left_client p lane _ _
 
-cancelled_waits : (p : Process) (lane : ℕ) → (cancelled_on p lane).waits ≡ p.waits
+pub cancelled_waits : (p : Process) (lane : ℕ) → (cancelled_on p lane).waits ≡ p.waits
 cancelled_waits p lane = left_waits p lane _ _
+
+abbrev listener : Process → ℕ → Reply → Process
+listener p lane r = record p { client = known_after p.client hearing.Used r.answer; waits = put_at p.waits lane None }
+
+heard_client : (p : Process) (lane : ℕ) (c : Called) (r : Reply) (y : Hearing) → (heard_as y p lane c r).client ≡ known_after p.client y r.answer
+heard_client p lane c r hearing.Strange = refl
+heard_client p lane c r hearing.Unsure = refl
+heard_client p lane c r hearing.Alarm = refl
+heard_client p lane c r hearing.Used = left_client (listener p lane r) lane _ _
+
+pub heard_waits : (p : Process) (lane : ℕ) (c : Called) (r : Reply) (y : Hearing) → (heard_as y p lane c r).waits ≡ put_at p.waits lane None
+heard_waits p lane c r hearing.Strange = refl
+heard_waits p lane c r hearing.Unsure = refl
+heard_waits p lane c r hearing.Alarm = refl
+heard_waits p lane c r hearing.Used = left_waits (listener p lane r) lane _ _
+
+after_nonce : (p : Process) (r : Reply) (y : Hearing) → (known_after p.client y r.answer).nonce ≡ p.client.nonce
+after_nonce p r hearing.Strange = refl
+after_nonce p r hearing.Unsure = refl
+after_nonce p r hearing.Alarm = refl
+after_nonce p r hearing.Used = refl
 
 -- AN ANSWER IS HEARD by the call that waits
 module _ (w : Both) (h : Holds w) (x : Faces w) (i lane : ℕ) (c : Called) (r : Reply) (m : Among r w.left) (waiting : (w.clients i).waits lane ≡ Some c) where
@@ -152,7 +150,7 @@ module _ (w : Both) (h : Holds w) (x : Faces w) (i lane : ℕ) (c : Called) (r :
   used_nonce : hearing_of p.client.known c r.answer ≡ hearing.Used → Knows now_nonce p.client → r.answer.heard.nonce ≡ now_nonce
   used_nonce used k =
       let usable = used_tests (is_same_attempt c.attempt r.answer.attempt) (is_fork r.answer.word) (is_now p.client.known c.knows) (is_usable p.client.known c.knows r.answer.heard) used in
-      let same = same_tests (is_same_attempt c.attempt r.answer.attempt) _ used in
+      let same = used_same (is_same_attempt c.attempt r.answer.attempt) _ used in
       by same (either_true (is_same_opening k.known r.answer.heard) (is_now (Some k.known) c.knows) (subst (λ (y : Option Known). is_usable y c.knows r.answer.heard ≡ true) k.is usable))
     where
       by : is_same_attempt c.attempt r.answer.attempt ≡ true → (is_same_opening k.known r.answer.heard ≡ true) ⊎ (is_now (Some k.known) c.knows ≡ true) → r.answer.heard.nonce ≡ now_nonce
@@ -171,27 +169,6 @@ module _ (w : Both) (h : Holds w) (x : Faces w) (i lane : ℕ) (c : Called) (r :
       by : (t : Bool) → (if t then y else r.answer.heard).nonce ≡ now_nonce
       by true = ap (λ (z : Known). z.nonce) (some_is y k e) ∙ one
       by false = two
-
-  abbrev listener : Process
-  listener = record p { client = known_after p.client hearing.Used r.answer; waits = put_at p.waits lane None }
-
-  heard_client : (y : Hearing) → (heard_as y p lane c r).client ≡ known_after p.client y r.answer
-  heard_client hearing.Strange = refl
-  heard_client hearing.Unsure = refl
-  heard_client hearing.Alarm = refl
-  heard_client hearing.Used = left_client listener lane _ _
-
-  heard_waits : (y : Hearing) → (heard_as y p lane c r).waits ≡ put_at p.waits lane None
-  heard_waits hearing.Strange = refl
-  heard_waits hearing.Unsure = refl
-  heard_waits hearing.Alarm = refl
-  heard_waits hearing.Used = left_waits listener lane _ _
-
-  after_nonce : (y : Hearing) → (known_after p.client y r.answer).nonce ≡ p.client.nonce
-  after_nonce hearing.Strange = refl
-  after_nonce hearing.Unsure = refl
-  after_nonce hearing.Alarm = refl
-  after_nonce hearing.Used = refl
 
   knows_after : (y : Hearing) → hearing_of p.client.known c r.answer ≡ y → Knows now_nonce p.client → Knows now_nonce (known_after p.client y r.answer)
   knows_after hearing.Strange e k = k
@@ -267,10 +244,10 @@ module _ (w : Both) (h : Holds w) (x : Faces w) (i lane : ℕ) (c : Called) (r :
       let y = hearing_of p.client.known c r.answer in
       client_faces w i (heard_on p lane c r) x
       (heard_ok (Beside w.server.present) AnyCommit (Shut w.server.present w.sent) w.server.notes w.sent p lane c r (x.each i) ((h.each i).mind.orders lane) tt (h.each i).once brings)
-      (ap (λ (z : Client). z.nonce) (heard_client y) ∙ after_nonce y)
+      (ap (λ (z : Client). z.nonce) (heard_client p lane c r y) ∙ after_nonce p r y)
       (nonces_heard p lane c r)
-      (λ n d e. silent_waits w i lane x n d (sym (ap (λ (f : ℕ → Option Called). f n) (heard_waits y)) ∙ e))
-      (λ d n met k. subst (λ (z : Client). Knows now_nonce z) (sym (heard_client y)) (knows_after y refl k))
+      (λ n d e. silent_waits w i lane x n d (sym (ap (λ (f : ℕ → Option Called). f n) (heard_waits p lane c r y)) ∙ e))
+      (λ d n met k. subst (λ (z : Client). Knows now_nonce z) (sym (heard_client p lane c r y)) (knows_after y refl k))
 
 -- A CANCEL
 cancels_faces : (w : Both) (i lane : ℕ) → Holds w → Faces w → Faces (with_client w i (cancelled_on (w.clients i) lane))

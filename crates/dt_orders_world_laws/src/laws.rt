@@ -2,13 +2,15 @@
 //! number of clients. The server handles any call that was ever made, in any order and as often as one likes,
 //! and any answer that ever left it may be heard by any call, any number of times or never. Either end may lose
 //! at any time what it didn't sync. `Rules` say which ends' stores may also be set back.
-ghost use Rattle.std.specs.Prelude.{ℕ, ◌≡◌, ◌≢◌, ◌≤◌, ◌⊎◌, Bool, false, true, Some};
+ghost use Rattle.std.specs.Prelude.{ℕ, ◌≡◌, ◌≢◌, ◌≤◌, ◌⊎◌, Bool, List, false, true, Some};
 ghost use Rattle.dt_orders_model.specs.declared.lanes.Fate.TheVariants.{Done, Never, Unknown};
 ghost use Rattle.dt_orders_model.specs.declared.requests.Verdict.TheVariants as verdict;
 ghost use Rattle.dt_orders_model.specs.Fates.{WasExecuted};
 ghost use Rattle.dt_orders_model.specs.Histories.{verdict_at};
+ghost use Rattle.dt_orders_model.specs.Judging.{is_ask};
 ghost use Rattle.dt_orders_model.specs.Stores.{Among, Name, Store, executions, heard};
 ghost use Rattle.dt_orders_world_laws.specs.Both.{Both, Rules, Runs, Told};
+ghost use Rattle.dt_orders_world_laws.specs.Ordered.{MayComeNext, RunsInOrder};
 ghost use Rattle.dt_orders_world_laws.specs.Wires.{Sent, call_as, name_of};
 
 /// EACH ORDER IS EXECUTED ONCE AT MOST in the history of each state that the server's store ever had, whatever
@@ -69,4 +71,14 @@ pub fn never_and_unknown_stay_over_set_backs()
         Among t w.told → (t.ended.fate ≡ Never) ⊎ (t.ended.fate ≡ Unknown) →
         Among c w.sent → name_of c ≡ t.ended.name →
         verdict_at true w.server.present (call_as c) ≢ verdict.Execute }
+{}
+
+/// NEVER AND UNKNOWN OVER SET BACKS WHERE CALLS KEEP THEIR ORDER, as those of services do: if the calls of a lane
+/// are handed out in the order in which they were made, each once at most, then after its program was told so,
+/// no call of the order is handed out any more. The server needn't be strict.
+pub fn settled_orders_are_handed_out_no_more()
+    ensures { (rules : Rules) (w : Both) (out : List Sent) (t : Told) (c : Sent) → rules.clients ≡ false →
+        RunsInOrder rules w out → Among t w.told → (t.ended.fate ≡ Never) ⊎ (t.ended.fate ≡ Unknown) →
+        Among c w.sent → is_ask c.called.kind ≡ false → name_of c ≡ t.ended.name →
+        MayComeNext w.sent out c → ⊥ }
 {}
