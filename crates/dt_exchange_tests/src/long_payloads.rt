@@ -1,10 +1,8 @@
-//! Messages and calls with payloads of up to 65,536 octets, as long as a window lets them be. Each is taken whole, and
-//! the memory for it is found: a library that loses what is longer than some hundred octets fails here.
-use dt_endpoint::{Endpoint, Guard, InLink, Links, OutLink, Received, Route, Sent};
+//! Messages of up to 65,536 octets, as long as a window lets them be. Each is taken whole, and the memory for it is
+//! found: a library that loses what is longer than some hundred octets fails here.
+use dt_endpoint::{Endpoint, InLink, Links, OutLink, Received, Route, Sent};
 use dt_inbox::{Inbox, TakenMessage};
 use dt_items::NoMemory;
-use dt_service::{Service, ServiceStart};
-use dt_service_model::{Happening, Made, Most, PortKind, Replied};
 use dt_units::{Flow, NodeId, Params};
 use std::alloc::Global;
 use std::process::Abort;
@@ -110,111 +108,4 @@ fn message_of_4097_octets_is_taken(rt: HostRuntime) -> Result<(), NoMemory> {
 #[test]
 fn message_of_65536_octets_is_taken(rt: HostRuntime) -> Result<(), NoMemory> {
     is_taken_whole(&rt, rt.alloc(), 65_536)
-}
-
-/// Node 1 calls from port 10, and node 2 serves at port 20.
-fn service(rt: &impl Abort, alloc: Global, me: u32) -> Result<Service, NoMemory> {
-    let rules = WIDE.check().expect(rt, "the parameters are refused");
-    let routes = [Route {
-        to: 3 - me.min(2),
-        link: 5,
-    }];
-    let links = Links {
-        outs: &OUTS,
-        ins: &INS,
-        routes: &routes,
-    };
-    let most = Most {
-        calls: 2,
-        requests: 2,
-        of_a_flow: 2,
-    };
-    let start = ServiceStart {
-        me: NodeId(me),
-        again: None,
-        life: 5,
-        most,
-    };
-    let mut opened = Service::open(alloc, &rules, &start, &links)?;
-    opened.port(10, PortKind::Caller)?;
-    opened.port(20, PortKind::Service)?;
-    Ok(opened)
-}
-
-/// All frames of the one come to the other.
-fn carries(one: &mut Service, two: &mut Service) -> bool {
-    for _ in 0..200 {
-        match one.next_frame() {
-            None => return true,
-            Some(out) => {
-                if two.arrive(12, 7, out.octets(), 0) != Received::Done {
-                    return false;
-                }
-            }
-        }
-    }
-    false
-}
-
-/// The request that is handed out has these octets, and its reply too.
-fn replies_alike(server: &mut Service, payload: &[u8]) -> bool {
-    match server.next() {
-        Some(
-            Happening::Request {
-                token,
-                payload: request,
-            },
-        ) => {
-            request.octets.as_slice() == payload
-                && server.reply(12, token, payload) == Replied::Done
-        }
-        _ => false,
-    }
-}
-
-/// So has the answer.
-fn is_answer(client: &mut Service, payload: &[u8]) -> bool {
-    match client.next() {
-        Some(Happening::Answered { answer, .. }) => answer.octets.as_slice() == payload,
-        _ => false,
-    }
-}
-
-/// A call with so many octets is handed out whole, and so is its answer.
-fn is_answered_alike(rt: &impl Abort, alloc: Global, length: usize) -> Result<(), NoMemory> {
-    let payload = payload_of(alloc, length)?;
-    let mut client = service(rt, alloc, 1)?;
-    let mut server = service(rt, alloc, 2)?;
-    let made = client.call(10, FLOW, &payload, 3000);
-    assert!(rt; matches!(made, Made::Call(_)), "it isn't called");
-    assert!(rt; carries(&mut client, &mut server), "a frame isn't taken");
-    assert!(rt; replies_alike(&mut server, &payload), "another request");
-    assert!(rt; carries(&mut server, &mut client), "a frame isn't taken");
-    assert!(rt; is_answer(&mut client, &payload), "another answer");
-    Ok(())
-}
-
-#[test]
-fn call_of_two_octets_is_answered(rt: HostRuntime) -> Result<(), NoMemory> {
-    is_answered_alike(&rt, rt.alloc(), 2)
-}
-
-#[test]
-fn call_of_4097_octets_is_answered(rt: HostRuntime) -> Result<(), NoMemory> {
-    is_answered_alike(&rt, rt.alloc(), 4_097)
-}
-
-/// The longest: with the eight octets of its number it fills the window.
-#[test]
-fn call_of_65528_octets_is_answered(rt: HostRuntime) -> Result<(), NoMemory> {
-    is_answered_alike(&rt, rt.alloc(), 65_528)
-}
-
-#[test]
-fn guard_takes_a_list_of_ports(rt: HostRuntime) {
-    let mut guard = Guard::new();
-    assert!(rt;
-        guard.limit(rt.alloc(), Some(&[10, 20]), 2).is_ok(),
-        "no memory"
-    );
 }
