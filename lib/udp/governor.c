@@ -104,7 +104,10 @@ static bool is_beside_others(const dt_udp *u, struct governor *g, uint64_t queue
         g->above = g->beside = 0;
         g->target_us = aim;
     }
-    if (queue > aim && g->above < LONG_ABOVE) g->above++;
+    if (g->above < LONG_ABOVE) {
+        if (queue > aim) g->above++;
+        else if (g->above) g->above--; /* (another of ours shrinks too, so it isn't above for long) */
+    }
     if (g->above < LONG_ABOVE) return false;
     uint64_t most = most_target(u, base_of(g), aim), more = g->target_us + g->target_us / 4;
     g->target_us = more < most ? more : most;
@@ -141,7 +144,7 @@ static void end_round(dt_udp *u, struct watch *it, uint16_t heard, uint64_t now_
     /* losses without a queue aren't ours, and beside others few of them are; a short queue is empty at times */
     bool lossy = (standing > aim / 8 && is_lossy(more, went, beside ? 4 : 20)) ||
                  (queue > aim / 8 && is_lossy(more, went, beside ? 4 : 12));
-    if (lossy || !g->limited || standing >= aim / 4 || is_lossy(more, went, 50)) g->low = 0;
+    if (lossy || !g->limited || standing >= aim / 8 || queue >= aim / 2 || is_lossy(more, went, 50)) g->low = 0;
     else if (g->low < LONG_LOW) g->low++;
     if (probes) (void)dt_watch_shrink(it->rules, 500); /* (if the queue was ours, it is empty then) */
     else if (lossy) (void)dt_watch_shrink(it->rules, (uint32_t)(more * 1000 / went));
