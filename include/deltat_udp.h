@@ -19,7 +19,8 @@
  * readable call dt_udp_next_event(udp, 0) until it returns DT_UDP_EVENT_NONE.
  *
  * Which duties of deltat.h the driver keeps: memory of the handle, the clock (CLOCK_BOOTTIME), the
- * delay on this machine (a datagram leaves within 20 ms after it was made, or is dropped), the wait
+ * delay on this machine (a datagram leaves within 20 ms after it was made, or is dropped; with the
+ * watch its wait counts as age), the wait
  * in the socket (the kernel's stamps, and the time since the socket was last found empty), the
  * calls of a forked child (refused), and restart and lives where `state` names a folder. And the
  * delay of the network: between two drivers each datagram ends with a trailer, by which the receiver
@@ -33,7 +34,8 @@
  *   - All nodes have equal parameters, and no two nodes have the same number.
  *   - Without `state`: `start_as` and `life` are right (deltat.h).
  *   - Call dt_udp_next_event or dt_udp_flush within 20 ms after dt_udp_send, dt_udp_call or dt_udp_reply.
- *     A datagram that waits longer is dropped, and is sent again after rto.
+ *     The wait of a datagram is a part of its age. Without the watch one that waits longer is dropped,
+ *     and is sent again after rto.
  *   - One thread at a time for each driver; none from a signal handler.
  *
  * docs/driver.md is the page for programmers. */
@@ -270,7 +272,8 @@ struct dt_udp_put_result {
 };
 
 /* Opens ports `first_port` to `first_port` + `lanes` for objects, the same ports at both ends; of a node. Objects are
- * sent over `lanes` flows at once: 16 to 64 if the way is long. `max_octets`: of objects that arrive, until they are
+ * sent over `lanes` flows at once, a chunk of five segments in each: 64 fill a way of 1 ms, 512 one of 20 ms, where a
+ * loss holds up the chunk of its lane only. `max_octets`: of objects that arrive, until they are
  * taken.
  *   DT_OK
  *   DT_EXISTS       done before, or one of the ports is open
@@ -511,8 +514,8 @@ enum { DT_UDP_MAX_HEARD = 64 };
  *   DT_NO_MEMORY, DT_STOPPED, DT_NOT_OPEN  the driver can't continue; `count` events waited before that */
 dt_status dt_udp_next_batch(dt_udp *udp, int wait_ms, struct dt_udp_batch *batch);
 
-/* Says that the program called a driven node at the reading `at`, and puts what left the node on the wire: what is more
- * than 20 ms old is dropped. If the socket wasn't looked at for 5 ms, does what is due, as dt_udp_call and dt_udp_reply
+/* Says that the program called a driven node at the reading `at`, and puts what left the node on the wire: without
+ * the watch what is more than 20 ms old is dropped. If the socket wasn't looked at for 5 ms, does what is due, as dt_udp_call and dt_udp_reply
  * of a driven node do: so a program may make many calls in one go. Returns whether it was looked at. */
 bool dt_udp_flush_since(dt_udp *udp, uint64_t at);
 

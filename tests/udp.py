@@ -791,7 +791,7 @@ def state(built: Built, folder: pathlib.Path) -> str:
     client.ended()
     wants(until() == ended, "a start that is ended in its silence doesn't begin it anew")
     wants(
-        "of node 1, and this is node 3" in refused(node=3) and "other parameters" in refused(r=451),
+        "of node 1, and this is node 3" in refused(node=3) and "r was 450 and is 451" in refused(r=451),
         "other nodes and other parameters",
     )
     client = begin(count=0, r=451, flags=16)

@@ -39,7 +39,7 @@ void dtu_judge(dt_udp *u) {
     if (u->core.stopped) dtu_fail(u, u->core.stopped, 0);
 }
 
-/* Begins an input of the node with this reading, in us: what it makes is late LATE_MS after the oldest reading, and the
+/* Begins an input of the node with this reading, in us: what it makes counts as made at the oldest reading, and the
  * state folder knows of it before it is done. False: the input must not be given to the node. */
 bool dtu_begin(dt_udp *u, uint64_t us) {
     uint64_t at = us / 1000;

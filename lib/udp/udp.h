@@ -30,7 +30,7 @@
 #include <sys/types.h>
 
 enum {
-    LATE_MS = 20,        /* a datagram that was made longer ago isn't sent: its link's charge has this */
+    LATE_MS = 20,        /* a datagram that was made longer ago isn't sent without a watch: its link's charge has this */
     IN_BATCH = 32,       /* datagrams that one system call reads, each of up to 64 segments */
     OUT_BATCH = 64,      /* datagrams that are sent at once */
     MAX_SEGMENTS = 64,   /* datagrams that one UDP_SEGMENT call sends: the kernel's limit */
@@ -110,7 +110,7 @@ struct waiting_flows {
 struct governor {
     uint64_t base[2]; /* the least delay of this span and of the last one; DT_NEVER: none was measured */
     uint64_t turned_us, round_us, heard_us, credit_us;
-    uint64_t sum_us, count; /* delays of this round */
+    uint64_t sum_us, count, least_us; /* delays of this round, and the least of them */
     uint64_t target_us;     /* the delay in queues that is let pass: the aim, or more while others fill them */
     int64_t credit;         /* octets that the pace lets go */
     uint16_t sent_then, sent_before, lost_before;
@@ -119,6 +119,7 @@ struct governor {
     uint8_t beside; /* rounds in which others filled the queue */
     uint8_t low;    /* rounds in a row with next to no queue though the window limited, up to LONG_LOW */
     bool fast, limited;
+    bool was_slow; /* the last round's delay was above half the aim */
 };
 
 /* What is known of a peer's clocks and openings, and what is under way to it. */
@@ -550,6 +551,7 @@ struct dt_reply_result dtu_govern_keep_reply(dt_udp *u, struct peer *peer, const
 void dtu_govern_ended(dt_udp *u, struct dt_udp_event *event);
 bool dtu_govern_event(dt_udp *u);
 void dtu_govern_release(dt_udp *u);
+bool dtu_govern_paces(const dt_udp *u);
 uint64_t dtu_govern_wake(const dt_udp *u, uint64_t now);
 
 /* --- reading.c */

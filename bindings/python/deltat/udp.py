@@ -329,8 +329,8 @@ class Udp(AnyUdp):
             self.flush(at)
 
     def flush(self, at: int) -> None:
-        """Puts what left the node at the time `at` on the wire. What is later than 20 ms is dropped. Does nothing if
-        the socket is closed."""
+        """Puts what left the node at the time `at` on the wire. Without the watch what is later than 20 ms is
+        dropped. Does nothing if the socket is closed."""
         self._flush(at)
 
     def poll(self, timeout: float | None = 0.0) -> list[Message]:

@@ -1065,9 +1065,9 @@ extern "C" {
     ) -> dt_status;
 
     /// Says that the program called a driven node at the reading `at`, and puts what left the node on the wire:
-    /// what is more than 20 ms old is dropped. If the socket wasn't looked at for 5 ms, does what is due, as
-    /// dt_udp_call and dt_udp_reply of a driven node do: so a program may make many calls in one go. Returns
-    /// whether it was looked at.
+    /// without the watch what is more than 20 ms old is dropped. If the socket wasn't looked at for 5 ms, does what
+    /// is due, as dt_udp_call and dt_udp_reply of a driven node do: so a program may make many calls in one go.
+    /// Returns whether it was looked at.
     pub fn dt_udp_flush_since(udp: *mut dt_udp, at: u64) -> bool;
 
     /// Returns the socket, which belongs to the driver, and the errno of the system call that failed, or 0.

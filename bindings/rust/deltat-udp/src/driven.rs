@@ -272,8 +272,8 @@ impl<K: DrivenKind> Driven<K> {
         self.check(status).map(|()| self.turned_at)
     }
 
-    /// Sends what waits. What the node made since the last turn counts as made at that turn's time, so later
-    /// than 20 ms after it nothing is sent, and the node sends it again.
+    /// Sends what waits. What the node made since the last turn counts as made at that turn's time. Without the
+    /// watch nothing is sent later than 20 ms after it, and the node sends it again.
     ///
     /// # Errors
     ///

@@ -341,7 +341,8 @@ impl<K: Kind> Handle<K> {
     }
 
     /// Puts what is due and what was sent on the wire now. Asking for an event does it too; between the two
-    /// at most 20 ms may pass, or what waits is dropped, and sent again after `rto`.
+    /// at most 20 ms may pass: what waits longer is older by that, and without the watch it is dropped, and sent
+    /// again after `rto`.
     pub fn flush(&self) {
         // SAFETY: as in `open_port_as`.
         unsafe { sys::dt_udp_flush(self.driver()) }

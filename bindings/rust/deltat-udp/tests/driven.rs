@@ -159,7 +159,10 @@ fn strangers_are_not_heard_and_a_guard_ends_nothing() {
 
 #[test]
 fn what_is_late_is_not_sent() {
-    let (mut one, _two) = pair();
+    let hears = UdpSocket::bind("127.0.0.1:0").unwrap();
+    let peers = [Peer { node: 2, link: 1, address: hears.local_addr().unwrap() }];
+    let node = node(1, &[LINK], &[(2, 1)]);
+    let mut one = Driven::bind_without_watch("127.0.0.1:0", node, &peers).unwrap();
     let at = one.turn(Some(Duration::ZERO)).unwrap();
     one.node.send(at, FLOW, b"hello", true, true).unwrap();
     sleep(Duration::from_millis(30));
