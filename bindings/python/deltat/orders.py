@@ -1330,7 +1330,9 @@ class Served:
         return function
 
     def close(self) -> None:
-        self.database.close()
+        """Closes the database, when no transaction runs."""
+        with self._lock:
+            self.database.close()
 
     # the store
 
