@@ -36,7 +36,7 @@ ROOMS = (
     Room("The world", "all nodes, and what happens to packets", 2, 1,
          "dt_world_model dt_world_laws dt_calls_model dt_calls_laws"),
     Room("The library", "what programs call, and laws of its networks", 3, 0,
-         "dt_endpoint dt_messages dt_inbox dt_service_model dt_tokens dt_call_book dt_service dt_early dt_exchange_tests dt_network"
+         "dt_endpoint dt_messages dt_inbox dt_service_model dt_tokens dt_open_calls dt_call_book dt_service dt_early dt_exchange_tests dt_network"
          " dt_service_laws dt_mailbox_laws dt_watch dt_watch_laws dt_orders_model dt_registers dt_order_lanes dt_orders_octets dt_orders_turns dt_orders_laws"
          " dt_orders_tests dt_c"),
     Room("The program", "replay, node, calls, audit", 3, 1,
