@@ -569,7 +569,7 @@ def main() -> int:
     with tempfile.TemporaryDirectory(prefix="deltat-blocks-") as name:
         folder = pathlib.Path(name)
         (folder / "sanitized").mkdir()
-        ran("make", "-s", "-C", str(BLOCKS), f"OUT={folder}/sanitized", f"CFLAGS={SANITIZED}", seconds=120)
+        ran("make", "-s", "-C", str(BLOCKS), f"OUT={folder}/sanitized", f"CFLAGS={SANITIZED}", seconds=240)
         outcomes += [tried(it, folder) for it in cases if it.__name__ in chosen]
     if "partitions" in chosen and has_namespaces() and has_libnbd():
         why, seen = partitions(given.partitions)
