@@ -15,6 +15,7 @@ import subprocess
 import sys
 import tempfile
 import time
+from collections.abc import Sequence
 
 sys.path.insert(0, str(pathlib.Path(__file__).resolve().parents[1] / "bindings" / "python"))
 import deltat  # noqa: E402
@@ -31,7 +32,7 @@ class Counted(orders.Log):
 
     writes = 0
 
-    def write(self, records: "list[bytes]") -> None:  # type: ignore[override]
+    def write(self, records: Sequence[bytes]) -> None:
         self.writes += 1
         super().write(records)
 

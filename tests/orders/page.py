@@ -12,6 +12,7 @@ import subprocess
 import sys
 import tempfile
 import time
+from typing import Any
 
 import deltat
 from deltat import orders, orders_chain
@@ -111,7 +112,7 @@ async def chained(text: str, folder: pathlib.Path) -> list[object]:
         opened(MIDDLE, {20: service, 11: caller}) as middle_udp,
         opened(LAST, {20: service}) as last_udp,
     ):
-        names = {"asyncio": asyncio, "deltat": deltat, "orders": orders, "orders_chain": orders_chain,
+        names: dict[str, Any] = {"asyncio": asyncio, "deltat": deltat, "orders": orders, "orders_chain": orders_chain,
                  "served": served, "calls": deltat.AsyncCalls(middle_udp)}
         program = eval(compile(text.replace("shop.db", str(folder / "shop.db")), "orders.md", "exec",
                                ast.PyCF_ALLOW_TOP_LEVEL_AWAIT), names)
