@@ -15,13 +15,15 @@
   isn't told; or a middle isn't told of a set back of the last end;
 - `power`: the power is cut after any system call that changes a file, and of what wasn't synced any part is lost: an
   order is lost or executed twice; or that isn't seen where an end doesn't sync;
+- `server`: an order that can't be committed holds up others; orders over sockets don't share transactions; an order is
+  Unknown and not for its reason; or many calls are needed for a fate though all is well again;
 - `killed`: of two processes, each is killed at each of its system calls that write, sync, send or receive, and an order
   is lost or executed twice;
 - `postgres`: the same service over PostgreSQL executes twice, or keeps what a handler did that failed;
 - `page`: the programs of docs/orders.md don't run as they stand there, or have more than 40 lines together.
 
-`killed` and `power` need strace, and `postgres` a PostgreSQL server and psycopg: without them they are left out. It needs the
-library (`make -C lib`).
+`killed` and `power` need strace, and `postgres` a PostgreSQL server and psycopg: without them they are left out. It
+needs the library (`make -C lib`).
 
 In tests/all: no words, 600 s."""
 import os
@@ -44,6 +46,7 @@ import mutants  # noqa: E402
 import page  # noqa: E402
 import postgres  # noqa: E402
 import power  # noqa: E402
+import server  # noqa: E402
 import twins  # noqa: E402
 
 PARTS = {
@@ -54,6 +57,7 @@ PARTS = {
     "chains": chains.cases,
     "log": module.log_cases,
     "power": power.cases,
+    "server": server.cases,
     "killed": killed.cases,
     "postgres": postgres.cases,
     "page": page.cases,

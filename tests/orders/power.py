@@ -14,7 +14,7 @@ import sys
 import tempfile
 from dataclasses import dataclass, field
 
-from deltat import orders
+from deltat import InvalidArgument, orders
 
 HERE = pathlib.Path(__file__).resolve().parent
 PATHS = [str(HERE), str(HERE.parents[1] / "bindings" / "python")]
@@ -221,7 +221,7 @@ def after(left: dict[str, bytes], told: int) -> str:
                 for it in range(client._book.state.last_uid, ORDERS):
                     fates[bodies[it]] = client.give(bodies[it])
                 rows = server.database.run("SELECT body FROM effects")
-        except (orders.SetBack, sqlite3.DatabaseError, orders.NotStored, orders.InvalidArgument) as why:
+        except (orders.SetBack, sqlite3.DatabaseError, orders.NotStored, InvalidArgument) as why:
             return repr(why)
     wrong = [it for it, fate in fates.items() if fate != orders.Done(b"did " + it)]
     found = sorted(bytes(body) for (body,) in rows)
