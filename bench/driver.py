@@ -258,7 +258,8 @@ def main() -> int:
                 answers[name].append(from_python(folder, many, given.seconds))
     best = {name: max(it[0] for it in found) for name, found in answers.items()}
     print(
-        "answers: the best run, what it is of the peer that it is compared with, processor at both ends (Python: the caller's)"
+        "answers: the best run, what it is of the peer that it is compared with, processor at both ends (Python: the"
+        " caller's)"
     )
     for name, found in answers.items():
         print(line(name, found, best.get(PEERS[name].of if name in PEERS else "calls", 0)))

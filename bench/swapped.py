@@ -72,7 +72,9 @@ def run(path, shelf):
     link.start()
     octets = "ab" * 65536
     receiver = node_script([SETUP, *shelf], (2, 1), (ports[1], two.getsockname()[1]), ["at 9000 stop"])
-    sender = node_script([SETUP], (1, 2), (ports[0], one.getsockname()[1]), [f"at 500 send {FLOW} be {octets}", "at 8000 stop"])
+    sender = node_script(
+        [SETUP], (1, 2), (ports[0], one.getsockname()[1]), [f"at 500 send {FLOW} be {octets}", "at 8000 stop"]
+    )
     nodes = [start(path, receiver), start(path, sender)]
     log = nodes[1].stdout.read()
     nodes[0].stdout.read()

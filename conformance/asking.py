@@ -41,7 +41,9 @@ class Asked:
         way = wire.Flow.read(flow)
         source, source_port, target, target_port = way.back() if kind == "ack" else way
         said = f"{kind} {self.life} {source}:{source_port}>{target}:{target_port} {number}"
-        return f"{said} {self.letters} {self.octets}" if kind == "data" else f"{said} {more[0]}" if kind == "ack" else said
+        return (
+            f"{said} {self.letters} {self.octets}" if kind == "data" else f"{said} {more[0]}" if kind == "ack" else said
+        )
 
 
 def find_targets(program: str, asked: list[Asked]) -> None:

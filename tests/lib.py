@@ -42,7 +42,16 @@ PARAMS = params(1000, 65536, 65536, "1000 8000 200 200 800")
 
 def two_stations(line: str = params()) -> str:
     """The setup of stations 1 and 2 with a link each way, and its `go`."""
-    lines = [line, "station 1 0", "station 2 0", "link 1 1 2 50 0", "link 2 2 1 50 0", "route 1 2 1", "route 2 1 2", "go"]
+    lines = [
+        line,
+        "station 1 0",
+        "station 2 0",
+        "link 1 1 2 50 0",
+        "link 2 2 1 50 0",
+        "route 1 2 1",
+        "route 2 1 2",
+        "go",
+    ]
     return "".join(f"{it}\n" for it in lines)
 
 
@@ -61,13 +70,23 @@ def free_port() -> int:
 
 def is_up(port: int) -> bool:
     """Whether some process has bound a socket for datagrams to that port. Nothing is bound to find out."""
-    return any(it.split()[1].endswith(f":{port:04X}") for it in pathlib.Path("/proc/net/udp").read_text().splitlines()[1:])
+    return any(
+        it.split()[1].endswith(f":{port:04X}") for it in pathlib.Path("/proc/net/udp").read_text().splitlines()[1:]
+    )
 
 
 def node_script(setup: Sequence[str], ends: tuple[int, int], ports: tuple[int, int], commands: Sequence[str]) -> str:
     """The script of a node with one peer: parameters and further lines of the setup, this node's number and the
     other's, this node's port and the other's, and what it does."""
-    lines = [setup[0], f"me {ends[0]} first", f"local {HOST}:{ports[0]}", f"peer 1 {HOST}:{ports[1]} 50 0", f"route {ends[1]} 1", *setup[1:], "go"]
+    lines = [
+        setup[0],
+        f"me {ends[0]} first",
+        f"local {HOST}:{ports[0]}",
+        f"peer 1 {HOST}:{ports[1]} 50 0",
+        f"route {ends[1]} 1",
+        *setup[1:],
+        "go",
+    ]
     return "\n".join([*lines, *commands]) + "\n"
 
 
@@ -94,7 +113,14 @@ def heard(path: str, node: int, datagrams: Sequence[tuple[int, bytes]], routes: 
     """What a node tells of datagrams on its link 1, which charges nothing, each at a moment above the one
     before: by a trace that the program at `path` runs again. For each moment the lines, without moment and node."""
     end = datagrams[-1][0] + 1 if datagrams else 1
-    setup = [params(room=65536), f"me {node} first", f"local {HOST}:4002", f"peer 1 {HOST}:4001 0 0", *(f"route {it} 1" for it in routes), "go"]
+    setup = [
+        params(room=65536),
+        f"me {node} first",
+        f"local {HOST}:4002",
+        f"peer 1 {HOST}:4001 0 0",
+        *(f"route {it} 1" for it in routes),
+        "go",
+    ]
     trace = [line for moment, octets in datagrams for line in (f"< 1 {octets.hex()}".rstrip(), f"@ {moment}")]
     text = "\n".join([*setup, *commands, f"at {end} stop", "trace", "@ 0", *trace, "< -", f"@ {end}"]) + "\n"
     ran = subprocess.run([path, "retrace"], input=text.encode(), capture_output=True, check=False)
@@ -110,7 +136,9 @@ def heard(path: str, node: int, datagrams: Sequence[tuple[int, bytes]], routes: 
 def answer(lines: Sequence[list[str]]) -> list[str]:
     """Of what a node tells at a moment, the line of the datagram that came; no words where there is none. The
     node's own acknowledgements go off too, or find no route."""
-    own = [before[0] in ("acked", "replied") and it[0] in ("put", "noroute") for before, it in zip([[""], *lines], lines)]
+    own = [
+        before[0] in ("acked", "replied") and it[0] in ("put", "noroute") for before, it in zip([[""], *lines], lines)
+    ]
     return next((it for it, is_own in zip(reversed(lines), reversed(own)) if it[0] in ANSWERS and not is_own), [])
 
 
@@ -233,8 +261,8 @@ def tell(cases: Sequence[tuple[str, bool, str]]) -> int:
 
 
 def stolen() -> float:
-    """Seconds of this machine's processors that its host has given to other machines since it began, as Linux counts them; nothing
-    where it doesn't tell. A figure of time is that much too great."""
+    """Seconds of this machine's processors that its host has given to other machines since it began, as Linux counts
+    them; nothing where it doesn't tell. A figure of time is that much too great."""
     with open("/proc/stat", encoding="ascii") as counts:
         fields = counts.readline().split()
     return int(fields[8]) / os.sysconf("SC_CLK_TCK") if len(fields) > 8 else 0.0
