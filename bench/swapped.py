@@ -4,8 +4,6 @@ that swaps every tenth pair of datagrams, each way. Without a shelf, and with on
 `bench/swapped.py [PROGRAM [RUNS]]`."""
 import os
 import select
-import socket
-import subprocess
 import sys
 import threading
 import time

@@ -84,8 +84,12 @@ tick 1
 tick 2
 tick 3
 """
-QUEUE = SETUP + "link 1 1 2 50 30\nlink 2 2 1 50 0\nroute 1 2 1\nroute 2 1 2\ngo\n" + "send 1:10>2:20 be 61\n" * 5 + "".join(
-    f"pass 30\ntick 1\narrive {i}\n" for i in (0, 2, 4, 6))
+QUEUE = (
+    SETUP
+    + "link 1 1 2 50 30\nlink 2 2 1 50 0\nroute 1 2 1\nroute 2 1 2\ngo\n"
+    + "send 1:10>2:20 be 61\n" * 5
+    + "".join(f"pass 30\ntick 1\narrive {i}\n" for i in (0, 2, 4, 6))
+)
 
 
 class Arrow(NamedTuple):
@@ -120,7 +124,11 @@ def plain(schedule: str, log: str) -> list[Arrow]:
             fates[int(it[1])].append(f"came {'once more ' if came else ''}at {now:,} ms")
         elif it[0] == "lose":
             fates[int(it[1])].append(f"lost at {now:,} ms")
-    return [Arrow(way, packet, fate) for number, (way, packet) in copies.items() for fate in fates[number] or ["nothing more is told of it"]]
+    return [
+        Arrow(way, packet, fate)
+        for number, (way, packet) in copies.items()
+        for fate in fates[number] or ["nothing more is told of it"]
+    ]
 
 
 def copies_of(log: str, links: dict, routes: dict, words: list[list[str]]) -> dict[int, tuple[str, str]]:
@@ -137,11 +145,17 @@ def copies_of(log: str, links: dict, routes: dict, words: list[list[str]]) -> di
         if made:
             ack = made[1] in ("acked", "replied")
             to = made[2] if ack else made[3]
-            queues.setdefault((it[1], routes.get((it[1], to), "")), []).append((to, f"{it[3]} {text_of(made[1], it[4:])}"))
+            queues.setdefault((it[1], routes.get((it[1], to), "")), []).append(
+                (to, f"{it[3]} {text_of(made[1], it[4:])}")
+            )
         elif it[2] == "put":
             queue = queues.setdefault((it[1], it[3]), [])
             if not queue:  # one that passes: the next that came here for a node beyond
-                number = next(n for n in passing if n in packets and links_end(copies[n]) == it[1] and routes.get((it[1], packets[n][0])) == it[3])
+                number = next(
+                    n
+                    for n in passing
+                    if n in packets and links_end(copies[n]) == it[1] and routes.get((it[1], packets[n][0])) == it[3]
+                )
                 passing.remove(number)
                 queue.append(packets[number])
             packets[int(it[6])] = queue.pop(0)
@@ -187,7 +201,10 @@ def picture(program: str) -> tuple[bool, str]:
 
 def schedules(program: str) -> dict[str, str]:
     """The schedules of all cases by their names."""
-    made = {f"make {n}": subprocess.run([program, "make", str(n)], capture_output=True, text=True, check=True).stdout for n in (1, 40, 200)}
+    made = {
+        f"make {n}": subprocess.run([program, "make", str(n)], capture_output=True, text=True, check=True).stdout
+        for n in (1, 40, 200)
+    }
     examples = {it.name: it.read_text("ascii") for it in sorted((ROOT / "examples").glob("*.schedule"))}
     return {**examples, "relay": RELAY, "queue": QUEUE, **made}
 
@@ -213,7 +230,9 @@ def parted(log: str, zeros: dict[str, int]) -> list[str]:
     for line in log.splitlines():
         it = line.split(" ")
         if len(it) > 2 and it[0].isdigit() and it[1] != "lost":
-            logs.setdefault(it[1], []).append(" ".join([str(int(it[0]) + zeros.get(it[1], 0)), *it[1:]]).split(" as ")[0])
+            logs.setdefault(it[1], []).append(
+                " ".join([str(int(it[0]) + zeros.get(it[1], 0)), *it[1:]]).split(" as ")[0]
+            )
     return ["\n".join([*lines, "end 99999"]) + "\n" for lines in logs.values()]
 
 
@@ -246,7 +265,11 @@ def one(program: str) -> tuple[bool, str]:
     part = parted(log, {})[0]
     there = drawn(svg_of(part))
     left = sum(" put " in line for line in part.splitlines())
-    came = sum(line.split(" ")[2] in ("settled", "ignored", "accepted", "replied", "dropped") for line in part.splitlines() if len(line.split(" ")) > 2)
+    came = sum(
+        line.split(" ")[2] in ("settled", "ignored", "accepted", "replied", "dropped")
+        for line in part.splitlines()
+        if len(line.split(" ")) > 2
+    )
     good = sum(it.way == "1 to 2" for it in there) == left and sum(it.way == "2 to 1" for it in there) == came
     return good, f"{left} packets left and {came} came in the log of one node; {len(there)} arrows"
 
@@ -306,13 +329,23 @@ def dropped(texts: list[dict[str, str]]) -> dict:
 def page(program: str) -> tuple[bool, str]:
     texts = sequence.texts_of([str(EXAMPLE)], program)
     same = dropped(texts).get("svg", "").strip() == sequence.picture_of(sequence.page_of(texts)).strip()
-    faults = {"no log": [texts[0]], "a script": [{"name": "node-1.script", "text": (ROOT / "examples/node-1.script").read_text("ascii")}],
-              "noise": [{"name": "noise", "text": "\x00\x01 noise <b>"}], "nothing": [{"name": "nothing", "text": ""}]}
+    faults = {
+        "no log": [texts[0]],
+        "a script": [{"name": "node-1.script", "text": (ROOT / "examples/node-1.script").read_text("ascii")}],
+        "noise": [{"name": "noise", "text": "\x00\x01 noise <b>"}],
+        "nothing": [{"name": "nothing", "text": ""}],
+    }
     told = {name: dropped(it).get("fault", "") for name, it in faults.items()}
     silent = [name for name, it in told.items() if not it]
     refused = replay_fault(program)
     good = same and not silent and refused
-    return good, f"a drop draws {'the same' if same else 'ANOTHER picture'}; {len(told) - len(silent)} of {len(told)} wrong drops are told; a refused schedule is {'drawn with its fault' if refused else 'NOT drawn'}"
+    return (
+        good,
+        (
+            f"a drop draws {'the same' if same else 'ANOTHER picture'}; {len(told) - len(silent)} of {len(told)} wrong"
+            f" drops are told; a refused schedule is {'drawn with its fault' if refused else 'NOT drawn'}"
+        ),
+    )
 
 
 def replay_fault(program: str) -> bool:
@@ -342,17 +375,32 @@ def look(program: str) -> tuple[bool, str]:
         pathlib.Path(path).write_text(texts, encoding="utf-8")
         for name, scheme in (("light", 1), ("dark", 0)):
             shot = os.path.join(folder, f"{name}.png")
-            sequence.headless(path, f"--screenshot={shot}", "--window-size=1000,700", f"--blink-settings=preferredColorScheme={scheme}")
+            sequence.headless(
+                path,
+                f"--screenshot={shot}",
+                "--window-size=1000,700",
+                f"--blink-settings=preferredColorScheme={scheme}",
+            )
             seen[name] = pixels(shot)
-    good = seen["light"][0] == (255, 255, 255) and seen["dark"][0] == (18, 22, 28) and min(it[1] for it in seen.values()) > 20000
+    good = (
+        seen["light"][0] == (255, 255, 255)
+        and seen["dark"][0] == (18, 22, 28)
+        and min(it[1] for it in seen.values()) > 20000
+    )
     return good, ", ".join(f"{name}: paper {colour}, {size} octets of picture" for name, (colour, size) in seen.items())
 
 
 def alone(program: str) -> tuple[bool, str]:
     svg = PICTURE.read_text(encoding="utf-8") if PICTURE.exists() else ""
     texts = sequence.page_of(sequence.texts_of([str(EXAMPLE)], program))
-    named = [it for text in (texts, svg) for it in re.findall(r"(?:https?:)?//[a-z][^\s\"'<]*|@import|url\(|\bsrc=|\bhref=|\bfetch\(|XMLHttp|WebSocket", text)
-             if it not in ("http://www.w3.org/2000/svg",) and not it.startswith("// ")]
+    named = [
+        it
+        for text in (texts, svg)
+        for it in re.findall(
+            r"(?:https?:)?//[a-z][^\s\"'<]*|@import|url\(|\bsrc=|\bhref=|\bfetch\(|XMLHttp|WebSocket", text
+        )
+        if it not in ("http://www.w3.org/2000/svg",) and not it.startswith("// ")
+    ]
     xml.dom.minidom.parseString(svg.encode() or b"<none/>")
     kept = "default-src 'none'" in texts and "<script" not in svg
     return not named and kept and bool(svg), f"{named or 'nothing'} is named that would be fetched"
@@ -360,7 +408,9 @@ def alone(program: str) -> tuple[bool, str]:
 
 def main() -> int:
     parser = argparse.ArgumentParser(description=__doc__, formatter_class=argparse.RawDescriptionHelpFormatter)
-    parser.add_argument("program", nargs="?", default=str(ROOT / "crates/deltat/out/deltat"), help="the program (default: %(default)s)")
+    parser.add_argument(
+        "program", nargs="?", default=str(ROOT / "crates/deltat/out/deltat"), help="the program (default: %(default)s)"
+    )
     parser.add_argument("only", nargs="*", help="cases (default: all)")
     given = parser.parse_args()
     program = os.path.abspath(given.program)

@@ -1,6 +1,6 @@
-"""A station of the definitions (docs/protocol.md), as plainly as it can be written, for tests that want reports and times
-of stations where the library isn't built. Sends are whole messages, its links have no pace, and it relays nothing. Offsets
-are numbers, and don't go round.
+"""A station of the definitions (docs/protocol.md), as plainly as it can be written, for tests that want reports and
+times of stations where the library isn't built. Sends are whole messages, its links have no pace, and it relays
+nothing. Offsets are numbers, and don't go round.
 
 In tests/all: not a test."""
 from collections import deque
@@ -218,13 +218,28 @@ class Station:
         while True:
             offered = []
             for at, it in enumerate(self._records()):
-                due = next(((kind, moment, at, it, what) for kind, moment, what in it.offers(self.params, now) if moment <= now), None)
+                due = next(
+                    (
+                        (kind, moment, at, it, what)
+                        for kind, moment, what in it.offers(self.params, now)
+                        if moment <= now
+                    ),
+                    None,
+                )
                 if due:
                     offered.append(due)
             if not offered:
                 return
             kind, _, _, it, what = min(offered, key=lambda it: it[:3])
-            {1: self._give_up, 2: self._release, 3: self._release_receive, 4: self._ack, 5: self._resend, 6: self._cut, 7: self._meet}[kind](it, what, now)
+            {
+                1: self._give_up,
+                2: self._release,
+                3: self._release_receive,
+                4: self._ack,
+                5: self._resend,
+                6: self._cut,
+                7: self._meet,
+            }[kind](it, what, now)
 
     def _leave(self, line: Line, frame: Frame) -> None:
         self.log.append(line)
@@ -254,7 +269,9 @@ class Station:
 
     def _ack(self, it: Receiver, _: object, now: int) -> None:
         it.due, it.told = None, it.free(self.params)
-        self._leave(Line("acked", it.flow, it.expected, window=it.told), Frame("ack", it.flow, 0, it.expected, window=it.told))
+        self._leave(
+            Line("acked", it.flow, it.expected, window=it.told), Frame("ack", it.flow, 0, it.expected, window=it.told)
+        )
 
     def _transmit(self, word: str, it: Sender, segment: Segment, now: int) -> None:
         run = segment.offset == it.left
