@@ -46,7 +46,7 @@ class Path:
 
     name: str
     delay: float  # ms each way; 0: loopback
-    network: tuple[str, ...]
+    network: str
     # requests a second of a quiet machine, by which the length of a job is chosen: of 4 and of 64 KiB, by depth
     rates: dict[tuple[int, int], int]
 
@@ -63,11 +63,11 @@ PATHS = {
     "loopback": Path(
         "loopback",
         0,
-        ("--delay", "20", "--round-trip", "1", "--mtu", "9000"),
+        "20,1,9000",
         rates((8000, 20000, 20000), (2000, 3000, 3000)),
     ),
-    "1": Path("1 ms", 1, ("--delay", "20", "--round-trip", "2"), rates((300, 2000, 6000), (200, 1000, 1500))),
-    "20": Path("20 ms", 20, ("--delay", "60", "--round-trip", "40"), rates((24, 180, 700), (20, 150, 400))),
+    "1": Path("1 ms", 1, "20,2", rates((300, 2000, 6000), (200, 1000, 1500))),
+    "20": Path("20 ms", 20, "60,40", rates((24, 180, 700), (20, 150, 400))),
 }
 
 
@@ -130,7 +130,7 @@ def server_words(path: Path, folder: pathlib.Path) -> list[list[str]]:
     disks = [folder / f"{it}.disk" for it in WAYS]
     return [
         ["nbdkit", "-f", "-i", path.host, "-p", TCP_PORT, "file", str(disks[2])],
-        [str(folder / "server"), str(disks[0]), str(folder / "state"), "--host", path.host, *path.network],
+        [str(folder / "server"), path.network, str(disks[0]), str(folder / "state"), f"{path.host}:{CALLS_PORT}"],
     ]
 
 
@@ -155,7 +155,7 @@ def measure(path: Path, folder: pathlib.Path, given: argparse.Namespace) -> None
     """The client's side: every job over every way; the results are in the file `results`."""
     set_queue(path)
     time.sleep(0.5)
-    gateway = [str(folder / "gateway"), f"{path.host}:{CALLS_PORT}", str(folder / "calls.sock"), *path.network]
+    gateway = [str(folder / "gateway"), path.network, f"{path.host}:{CALLS_PORT}", str(folder / "calls.sock")]
     proxy = ["nbdkit", "-f", "-U", str(folder / "proxy.sock"), "nbd", f"hostname={path.host}", f"port={TCP_PORT}"]
     running = [subprocess.Popen(it, stderr=(folder / f"log-{i}").open("wb")) for i, it in enumerate((gateway, proxy))]
     uris = {

@@ -10,7 +10,7 @@ take turns, N runs (5) each:
 - 64 KiB: messages of 65,524 octets, one after another: how many a second;
 - calls from Python by deltat.Calls, one after another, and by AsyncCalls 32 and 1,000 at once, to a service in C;
 - with --links (`--links 20:0 20:1 20:5`), over tests/wan.py with so many ms each way and so many of 100 packets lost:
-  objects of 64 KiB and of 16 MiB over 64 lanes from a node that the other one doesn't know, three one after another,
+  objects of 64 KiB and of 16 MiB over 512 lanes from a node that the other one doesn't know, three one after another,
   and as many octets over one connection of TCP: the seconds of the first one and of the best one after it.
 
 `same` is UDP with the very datagrams that two nodes exchange, acknowledgements too. The best run counts, since others
@@ -36,7 +36,7 @@ C = ["cc", "-O2", "-Wall", "-Wextra", "-Werror"]
 LIBRARIES = [f"-I{TOP / 'include'}", str(TOP / "lib" / "libdeltat-udp.a"), str(TOP / "lib" / "libdeltat.a")]
 PROGRAMS = {"udp": [], "same": [], "tcp": [], "enet": ["-lenet"], "driver": LIBRARIES}
 MESSAGES, LARGE = 50, 65_524
-SIZES, LANES, TIMES = (65_536, 16_777_216), 64, 3
+SIZES, LANES, TIMES = (65_536, 16_777_216), 512, 3
 
 
 class Peer(NamedTuple):

@@ -9,7 +9,7 @@ It refuses, each with page and line:
 - a crate's row in the table of crates whose "stands on" differs from crates.txt, and a crate
   without a row;
 - a library on a crate's line in crates.txt of which the crate names nothing;
-- a clause of `run` that docs/headline.md doesn't name;
+- a clause of `run`, or of a law beside it, that docs/headline.md doesn't name; and a law there that is gone;
 - a word of a line that is written or read and that docs/formats.md doesn't name;
 - a count of the files that a new line, export or report or another retransmission rule costs, where the sources have
   other files;
@@ -311,6 +311,16 @@ def check_run() -> Iterator[Complaint]:
     for clause in sentences_of_run():
         if clause not in named:
             yield Complaint(page, 1, f"the clause {clause} of `run` isn't named")
+    # the laws beside `run`, and every other that the page names
+    laws_named = set(re.findall(r"`(dt_\w+::[\w.]+)`", text_of(page)))
+    for it in functions():
+        if (it.crate, it.module) == ("dt_top", "laws"):
+            for law in (f"dt_top::{it.name}.{clause}" for clause in it.ensures):
+                if law not in laws_named:
+                    yield Complaint(page, 1, f"the law {law} isn't named")
+    for law in sorted(laws_named):
+        if not is_law(law):
+            yield Complaint(page, 1, f"no such law: {law}")
 
 
 # --- the table of crates

@@ -26,7 +26,7 @@ class Room(NamedTuple):
 
 ROOMS = (
     Room("Basics", "limits, times, octets, deadlines", 0, -1,
-         "dt_units dt_items dt_params dt_fingerprint dt_cases dt_timers"),
+         "dt_units dt_items dt_params dt_fingerprint dt_cases dt_timers dt_ordered"),
     Room("A flow", "one sender, one receiver: definitions, laws, code", 1, 0,
          "dt_layout dt_flow_model dt_flow_laws dt_send dt_recv dt_flow_tests"),
     Room("Texts", "logs, schedules, scripts: written and read", 1, 1,
@@ -36,9 +36,10 @@ ROOMS = (
     Room("The world", "all nodes, and what happens to packets", 2, 1,
          "dt_world_model dt_world_laws dt_calls_model dt_calls_laws"),
     Room("The library", "what programs call, and laws of its networks", 3, 0,
-         "dt_endpoint dt_messages dt_inbox dt_service_model dt_call_book dt_service dt_early dt_exchange_tests dt_network"
+         "dt_endpoint dt_messages dt_inbox dt_service_model dt_tokens dt_open_calls dt_call_book dt_service dt_early dt_early_laws dt_exchange_tests"
+         " dt_network"
          " dt_service_laws dt_mailbox_laws dt_watch dt_watch_laws dt_orders_model dt_registers dt_order_lanes dt_orders_octets dt_orders_turns dt_orders_laws"
-         " dt_orders_tests dt_c"),
+         " dt_orders_world_laws dt_orders_tests dt_c"),
     Room("The program", "replay, node, calls, audit", 3, 1,
          "dt_ledger dt_parts_tests dt_script dt_notes dt_world dt_scenario dt_replay dt_call_parts dt_calls dt_calls_input dt_turn dt_node dt_audit"
          " dt_audit_laws dt_replay_audit dt_top dt_trial dt_top_tests deltat deltat_tests"),

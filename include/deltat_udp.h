@@ -19,7 +19,8 @@
  * readable call dt_udp_next_event(udp, 0) until it returns DT_UDP_EVENT_NONE.
  *
  * Which duties of deltat.h the driver keeps: memory of the handle, the clock (CLOCK_BOOTTIME), the
- * delay on this machine (a datagram leaves within 20 ms after it was made, or is dropped), the wait
+ * delay on this machine (a datagram leaves within 20 ms after it was made, or is dropped; with the
+ * watch its wait counts as age), the wait
  * in the socket (the kernel's stamps, and the time since the socket was last found empty), the
  * calls of a forked child (refused), and restart and lives where `state` names a folder. And the
  * delay of the network: between two drivers each datagram ends with a trailer, by which the receiver
@@ -33,7 +34,8 @@
  *   - All nodes have equal parameters, and no two nodes have the same number.
  *   - Without `state`: `start_as` and `life` are right (deltat.h).
  *   - Call dt_udp_next_event or dt_udp_flush within 20 ms after dt_udp_send, dt_udp_call or dt_udp_reply.
- *     A datagram that waits longer is dropped, and is sent again after rto.
+ *     The wait of a datagram is a part of its age. Without the watch one that waits longer is dropped,
+ *     and is sent again after rto.
  *   - One thread at a time for each driver; none from a signal handler.
  *
  * docs/driver.md is the page for programmers. */
@@ -270,7 +272,8 @@ struct dt_udp_put_result {
 };
 
 /* Opens ports `first_port` to `first_port` + `lanes` for objects, the same ports at both ends; of a node. Objects are
- * sent over `lanes` flows at once: 16 to 64 if the way is long. `max_octets`: of objects that arrive, until they are
+ * sent over `lanes` flows at once, a chunk of five segments in each: 64 fill a way of 1 ms, 512 one of 20 ms, where a
+ * loss holds up the chunk of its lane only. `max_octets`: of objects that arrive, until they are
  * taken.
  *   DT_OK
  *   DT_EXISTS       done before, or one of the ports is open
@@ -315,6 +318,21 @@ uint32_t dt_udp_life(dt_udp *udp);
 /* Returns the counters, which belong to the driver. */
 const struct dt_udp_counts *dt_udp_get_counts(dt_udp *udp);
 
+/* Records what passes from now on into a file, for Wireshark and tools/trace_token.py: each datagram, and each call,
+ * request, reply and end of a call with its token (docs/formats.md, "Recordings"). A file of that name is replaced; an
+ * earlier recording ends. It ends by itself before the file would have more than `max_octets`. A null `path` ends it,
+ * and so does dt_udp_close. What passed since the driver last waited isn't in the file yet.
+ *   DT_OK
+ *   DT_INVALID    the file can't be made; `error` (or null) has the errno. Nothing is recorded
+ *   DT_NO_MEMORY  nothing is recorded
+ *   DT_STOPPED, DT_NOT_OPEN  the driver failed, or this is a forked child
+ * Cost: 256 KB while it records; a copy of each datagram, and a system call for each wait. */
+dt_status dt_udp_record(dt_udp *udp, const char *path, uint64_t max_octets, struct dt_udp_error *error);
+
+/* Returns whether the driver records: DT_OK; DT_NONE: no; DT_FULL: it ended at `max_octets`; DT_NOT_OPEN: it ended since
+ * the system refused a write, and the file has what was written before. */
+dt_status dt_udp_recording(dt_udp *udp);
+
 /* Returns the handle of the node or of the service, for calls of deltat.h that the driver doesn't
  * have (counters, dt_node_count_flow, dt_service_stop ..); null if the driver has the other. Never call
  * what takes `now`, and never take datagrams, reports, messages or events by it. */
@@ -337,6 +355,75 @@ struct dt_udp_keeper {
                                                 driver fails with DT_NOT_OPEN */
     void *user;
 };
+
+/* The state folder of a node that the program opens itself, to be driven or with a wire of its own: what options.state
+ * is of dt_udp_open. docs/formats.md has the form of its files. */
+typedef struct dt_udp_state dt_udp_state;
+
+/* Zero the struct, and set `size` and what you need. */
+struct dt_udp_state_options {
+    uint32_t size;                  /* sizeof(struct dt_udp_state_options) */
+    uint32_t node;                  /* number of the node */
+    const struct dt_params *params; /* of the network; copied */
+    const char *folder;             /* its path; it is made if it isn't there */
+    const char *boot;               /* 36 of "0-9a-f-": names what the readings count from [the system's name of this
+                                       start of the machine, from which CLOCK_BOOTTIME counts] */
+    int64_t clock_ahead;            /* with `boot`: ns by which the readings are ahead of those of other processes */
+    uint8_t start_as;               /* DT_UDP_START_BY_STATE, or DT_UDP_START_AGAIN: as in options.start_as */
+    bool params_changed;            /* as DT_UDP_FLAG_PARAMS_CHANGED */
+};
+
+/* How the node starts, as its folder says. */
+struct dt_udp_state_start {
+    const char *why;  /* one line: what that rests on */
+    char warning[64]; /* a file that was damaged or gone, for an operator; else empty */
+    uint32_t life;    /* the last that was counted: no earlier life of the node had it */
+    uint8_t start;    /* enum dt_start */
+};
+
+/* Opens a state folder, takes its lock, and counts a life, which is on the disk when this returns. One folder is for one
+ * opening of a node. Returns null if that fails, and `error` says why: DT_EXISTS (another process has it), DT_INVALID
+ * (it is of another node or of other parameters; an option is wrong; no lives are left), DT_NO_MEMORY, DT_NOT_OPEN (it
+ * can't be read or written). Cost: two syncs of the disk. With `params_changed` it may wait for the rest of a silence. */
+dt_udp_state *dt_udp_state_open(const struct dt_udp_state_options *options, struct dt_udp_error *error);
+
+/* Returns how the node starts. It belongs to the state. */
+const struct dt_udp_state_start *dt_udp_state_get_start(dt_udp_state *state);
+
+/* Sets `at` to the reading to open the node at: the end of its last life, if that is known, so that the node is silent
+ * for the rest only, or `now`. Until the rest is over nothing is noted.
+ *   DT_OK
+ *   DT_EXISTS    it was called before: open another state for another opening
+ *   DT_NOT_OPEN  it can't be written, or the state is closed, or this is a forked child; don't open the node */
+dt_status dt_udp_state_begin(dt_udp_state *state, uint64_t now, uint64_t *at);
+
+/* Returns the keeper, for dt_udp_drive: the driver notes each input then. It belongs to the state, until that is freed. */
+struct dt_udp_keeper *dt_udp_state_keeper(dt_udp_state *state);
+
+/* Notes that at this reading a datagram may leave the node, or is passed in. A program with a wire of its own calls it
+ * before each input of the node, except a tick at which nothing is due. Cost: three comparisons, and each quarter of
+ * the quiet time a write of 125 octets.
+ *   DT_OK
+ *   DT_NOT_OPEN  it can't be written, or the state is closed, or this is a forked child: don't do the input */
+dt_status dt_udp_state_note(dt_udp_state *state, uint64_t at);
+
+/* Counts one more life, for dt_service_set_life. It is on the disk when this returns. Sets `life` to the last one.
+ *   DT_OK
+ *   DT_FULL      no lives are left
+ *   DT_NOT_OPEN  it can't be written, or the state is closed, or this is a forked child */
+dt_status dt_udp_state_next_life(dt_udp_state *state, uint32_t *life);
+
+/* Returns the errno of the write that failed last, or 0. */
+int dt_udp_state_system_error(dt_udp_state *state);
+
+/* With the node closed: writes when the last datagram left or was passed in, and frees the lock. Later calls are
+ * DT_NOT_OPEN. In a forked child it writes nothing, and the lock stays the parent's.
+ *   DT_OK
+ *   DT_NOT_OPEN  it can't be written: the next start counts with what was promised ahead */
+dt_status dt_udp_state_close(dt_udp_state *state);
+
+/* Frees the memory; null is allowed. A state that wasn't closed leaves what a killed program leaves. */
+void dt_udp_state_free(dt_udp_state *state);
 
 /* A datagram that arrived. */
 struct dt_udp_datagram {
@@ -427,8 +514,8 @@ enum { DT_UDP_MAX_HEARD = 64 };
  *   DT_NO_MEMORY, DT_STOPPED, DT_NOT_OPEN  the driver can't continue; `count` events waited before that */
 dt_status dt_udp_next_batch(dt_udp *udp, int wait_ms, struct dt_udp_batch *batch);
 
-/* Says that the program called a driven node at the reading `at`, and puts what left the node on the wire: what is more
- * than 20 ms old is dropped. If the socket wasn't looked at for 5 ms, does what is due, as dt_udp_call and dt_udp_reply
+/* Says that the program called a driven node at the reading `at`, and puts what left the node on the wire: without
+ * the watch what is more than 20 ms old is dropped. If the socket wasn't looked at for 5 ms, does what is due, as dt_udp_call and dt_udp_reply
  * of a driven node do: so a program may make many calls in one go. Returns whether it was looked at. */
 bool dt_udp_flush_since(dt_udp *udp, uint64_t at);
 

@@ -359,7 +359,7 @@ def wrapped(text: str, mark: str, width: int = 116) -> Iterator[str]:
 
 RUST_TYPES = {
     "bool": "bool", "uint8_t": "u8", "uint16_t": "u16", "uint32_t": "u32", "uint64_t": "u64", "size_t": "usize",
-    "double": "f64", "char": "c_char", "void": "c_void", "int": "c_int", "int32_t": "i32",
+    "double": "f64", "char": "c_char", "void": "c_void", "int": "c_int", "int32_t": "i32", "int64_t": "i64",
 }
 
 
@@ -498,7 +498,8 @@ def rust_udp() -> str:
 
 PYTHON_TYPES = {
     "bool": "c_bool", "uint8_t": "c_uint8", "uint16_t": "c_uint16", "uint32_t": "c_uint32", "uint64_t": "c_uint64",
-    "size_t": "c_size_t", "double": "c_double", "dt_status": "c_uint8", "int": "c_int", "int32_t": "c_int32", "char": "c_char",
+    "size_t": "c_size_t", "double": "c_double", "dt_status": "c_uint8", "int": "c_int", "int32_t": "c_int32",
+    "int64_t": "c_int64", "char": "c_char",
 }
 # enums whose name in Python isn't that of C without its prefix
 PYTHON_ENUMS = {"dt_status_code": "Status", "dt_invalid": "InvalidReason"}
@@ -514,7 +515,7 @@ def python_type(it: Type, of: str = "") -> str:
     if it.is_pointer and it.name == "char" and it.is_const:
         return "ctypes.c_char_p"
     # octets and handles: what is handed over has any type
-    if it.is_pointer and (it.name in ("uint8_t", "char", "void", "dt_udp") or it.name in header().opaque):
+    if it.is_pointer and (it.name in ("uint8_t", "char", "void", "dt_udp", "dt_udp_state") or it.name in header().opaque):
         return "ctypes.c_void_p"
     if it.name in PYTHON_TYPES:
         name = f"ctypes.{PYTHON_TYPES[it.name]}"

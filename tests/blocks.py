@@ -42,9 +42,10 @@ from lib import HOST, TOP, own_port, skip, tell
 
 BLOCKS = TOP / "examples" / "blocks"
 MIB = 1 << 20
+SIZE = 16 * MIB
 SANITIZED = "-O1 -g -fsanitize=address,undefined -fno-sanitize-recover=undefined -fno-omit-frame-pointer"
 # a network that this machine keeps, also if it is busy
-NETWORK = ["--delay", "60", "--round-trip", "4"]
+NETWORK = "60,4"
 WORDS = {
     "nbdkit": "nbdkit",
     "nbdinfo": "libnbd-bin",
@@ -103,12 +104,12 @@ class Lossy(threading.Thread):
 class World:
     """A server, and gateways; both may be killed and started again."""
 
-    def __init__(self, folder: pathlib.Path, programs: pathlib.Path, size: int = 64 * MIB, loss: float = 0.0) -> None:
+    def __init__(self, folder: pathlib.Path, programs: pathlib.Path, loss: float = 0.0) -> None:
         self.folder, self.programs = folder, programs
         folder.mkdir()
         self.disk = folder / "disk"
         with self.disk.open("wb") as it:
-            it.truncate(size)
+            it.truncate(SIZE)
         self.port = own_port()
         self.lossy = Lossy(self.port, loss) if loss else None
         if self.lossy:
@@ -120,10 +121,10 @@ class World:
     def start(self, name: str, *words: str) -> "subprocess.Popen[bytes]":
         self.started += 1
         log = (self.folder / f"{name}-{self.started}.log").open("wb")
-        return subprocess.Popen([str(self.programs / name), *words, *NETWORK], stderr=log, stdin=subprocess.DEVNULL)
+        return subprocess.Popen([str(self.programs / name), NETWORK, *words], stderr=log, stdin=subprocess.DEVNULL)
 
     def start_server(self, *words: str) -> None:
-        place = [str(self.disk), str(self.folder / "state"), "--host", HOST, "--port", str(self.port)]
+        place = [str(self.disk), str(self.folder / "state"), f"{HOST}:{self.port}"]
         self.server = self.start("server", *place, *words)
 
     def kill_server(self) -> None:
@@ -140,7 +141,7 @@ class World:
     def start_gateway(self, name: str = "a", *words: str, waits: bool = True) -> None:
         port = self.lossy.port if self.lossy else self.port
         self.gateways[name] = self.start("gateway", f"{HOST}:{port}", str(self.door(name)), *words)
-        until = time.monotonic() + 20
+        until = time.monotonic() + 60
         while waits and not self.door(name).exists():
             if time.monotonic() > until or self.gateways[name].poll() is not None:
                 raise RuntimeError(f"gateway {name} didn't open its door: {self.logs()}")
@@ -150,6 +151,14 @@ class World:
         self.gateways[name].kill()
         self.gateways[name].wait()
         self.door(name).unlink(missing_ok=True)
+
+    def wrote(self, octets: int, job: "subprocess.Popen[str] | subprocess.Popen[bytes]") -> None:
+        """Waits until so many octets more of the disk were written for the first time, or the job that does it ended."""
+        until, wanted = time.monotonic() + 60, self.disk.stat().st_blocks * 512 + octets
+        while self.disk.stat().st_blocks * 512 < wanted and job.poll() is None:
+            if time.monotonic() > until:
+                raise RuntimeError(f"{octets} octets weren't written within 60 s")
+            time.sleep(0.005)
 
     def logs(self) -> str:
         return "".join(it.read_text(errors="replace") for it in sorted(self.folder.glob("*.log")))
@@ -192,7 +201,7 @@ class Client:
 
     def __init__(self, door: pathlib.Path) -> None:
         self.it = socket.socket(socket.AF_UNIX)
-        self.it.settimeout(30)
+        self.it.settimeout(60)
         self.it.connect(str(door))
         self.cookie = 0
 
@@ -230,7 +239,7 @@ class Client:
         self.it.close()
 
 
-def ran(*words: str, seconds: float = 60) -> str:
+def ran(*words: str, seconds: float = 100) -> str:
     """What a command wrote; it must end with 0."""
     done = subprocess.run(words, capture_output=True, text=True, timeout=seconds, check=False, stdin=subprocess.DEVNULL)
     if done.returncode:
@@ -248,15 +257,15 @@ def block(version: int, number: int, size: int = 4096) -> bytes:
 def clients(folder: pathlib.Path) -> str:
     with world(folder, "clients") as it:
         uri, given, back = it.uri(), it.folder / "in", it.folder / "out"
-        if ran("nbdinfo", "--size", uri).strip() != str(64 * MIB):
+        if ran("nbdinfo", "--size", uri).strip() != str(SIZE):
             return "nbdinfo says another size"
-        given.write_bytes(random.Random(1).randbytes(64 * MIB))
+        given.write_bytes(random.Random(1).randbytes(SIZE))
         ran("nbdcopy", str(given), uri)
         ran("nbdcopy", uri, str(back))
         if not given.read_bytes() == back.read_bytes() == it.disk.read_bytes():
             return "nbdcopy copied something else"
-        ran("qemu-img", "create", "-q", "-f", "qcow2", f"{it.folder}/q", "64M")
-        ran("qemu-io", "-c", "write -P 0x5a 1M 8M", "-c", "write -P 0x11 40M 64k", f"{it.folder}/q")
+        ran("qemu-img", "create", "-q", "-f", "qcow2", f"{it.folder}/q", "16M")
+        ran("qemu-io", "-c", "write -P 0x5a 1M 4M", "-c", "write -P 0x11 12M 64k", f"{it.folder}/q")
         ran("qemu-img", "convert", "-n", "-f", "qcow2", "-O", "raw", f"{it.folder}/q", uri)
         ran("qemu-img", "compare", "-f", "qcow2", "-F", "raw", f"{it.folder}/q", uri)
         text = ran(
@@ -320,13 +329,13 @@ def strangers(folder: pathlib.Path) -> str:
             client.close()
         wrong = Client(it.door()).handshake()
         beyond = [
-            wrong.error_of(WRITE, 64 * MIB - 100, bytes(4096)),
+            wrong.error_of(WRITE, SIZE - 100, bytes(4096)),
             wrong.error_of(WRITE, (1 << 64) - 100, bytes(200)),
             wrong.error_of(99),
         ]
         if beyond != [28, 28, 22]:
             return f"errors {beyond}"
-        wrong.ask(READ, 64 * MIB, length=1)
+        wrong.ask(READ, SIZE, length=1)
         return (
             "" if wrong.answer()[1] == 22 and wrong.error_of(WRITE, 0, b"x" * 512) == 0 else "no answer after an error"
         )
@@ -359,12 +368,12 @@ def fio(uri: str, size: str, runtime: int) -> "subprocess.Popen[str]":
 
 def kills(folder: pathlib.Path) -> str:
     with world(folder, "kills") as it:
-        job = fio(it.uri(), "32M", 300)
+        job = fio(it.uri(), "8M", 300)
         for _ in range(3):
-            time.sleep(1.0)
+            it.wrote(MIB, job)
             it.kill_server()
             it.start_server()
-        text, _ = job.communicate(timeout=90)
+        text, _ = job.communicate(timeout=120)
         found = json.loads(text[text.index("{") :])["jobs"][0]
         return "" if job.returncode == 0 and found["error"] == 0 else f"fio ended with {job.returncode}: {text[-300:]}"
 
@@ -374,10 +383,10 @@ def cache(folder: pathlib.Path) -> str:
         one, two = Client(it.door()).handshake(), Client(it.door()).handshake()
         calm = [one.error_of(WRITE, 0, bytes(4096)), one.error_of(FLUSH), two.error_of(FLUSH)]
         it.kill_server()
-        it.start_server("--boot", "7")
+        it.start_server("7")
         flushed = [one.error_of(FLUSH), one.error_of(WRITE, 0, bytes(4096))]
         it.kill_server()
-        it.start_server("--boot", "8")
+        it.start_server("8")
         lost = [one.error_of(FLUSH), one.error_of(FLUSH), two.error_of(FLUSH), two.error_of(FLUSH)]
         late = Client(it.door()).handshake().error_of(FLUSH)
         found = calm, flushed, lost, late
@@ -419,7 +428,7 @@ def fence(folder: pathlib.Path) -> str:
         for number in range(count):
             first.ask(WRITE, number * 4096, block(1, number))
         it.gateways["a"].send_signal(signal.SIGSTOP)
-        it.start_gateway("b", "--take-over")
+        it.start_gateway("b", "take-over")
         second = Client(it.door("b")).handshake()
         errors = sum(second.error_of(WRITE, number * 4096, block(2, number)) for number in range(count))
         errors += second.error_of(FLUSH)
@@ -449,7 +458,7 @@ class Fuse:
         self.file = it.folder / f"file-{name}"
         self.file.touch()
         self.process = subprocess.Popen(["nbdfuse", str(self.file), it.uri(name)], stderr=subprocess.DEVNULL)
-        until = time.monotonic() + 15
+        until = time.monotonic() + 60
         while self.file.stat().st_size == 0:
             if time.monotonic() > until:
                 raise RuntimeError("nbdfuse made no file")
@@ -469,10 +478,10 @@ def ext4(folder: pathlib.Path) -> str:
         try:
             job = subprocess.Popen(["mke2fs", "-q", "-F", "-t", "ext4", "-d", str(TOP / "docs"), str(fuse.file)])
             for _ in range(2):
-                time.sleep(0.5)
+                it.wrote(MIB // 4, job)
                 it.kill_server()
                 it.start_server()
-            if job.wait(60) != 0:
+            if job.wait(120) != 0:
                 return "mke2fs failed"
             ran("e2fsck", "-fn", str(fuse.file))
             # the gateway is killed while another file system is made, and the next gateway makes a third one over it
@@ -481,9 +490,9 @@ def ext4(folder: pathlib.Path) -> str:
                 stdout=subprocess.DEVNULL,
                 stderr=subprocess.DEVNULL,
             )
-            time.sleep(0.3)
+            it.wrote(MIB // 8, job)
             it.kill_gateway()
-            job.wait(60)
+            job.wait(120)
         finally:
             fuse.stop()
         it.start_gateway("b")

@@ -136,12 +136,13 @@ edition = "2021"
 
 [dependencies]
 deltat = { path = "/usr/share/deltat/rust/deltat" }
+deltat-udp = { path = "/usr/share/deltat/rust/deltat-udp" }
 END
 block rust docs/library.md >src/main.rs
 cargo build --offline --quiet
 timeout 30 target/debug/service &
 sleep 3
-python3 /root/copy/examples/echo.py ask-plain hello world
+python3 /root/copy/examples/echo.py ask hello world
 kill $!
 """
 )

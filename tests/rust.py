@@ -8,7 +8,7 @@
   their documents, and makes the documents; clippy has nothing to say, where there is one.
 - found: library and driver are found by a deltat.pc, also the shared ones; a folder without one is named in the error.
 - interfaces: a program isn't linked with a library of interface 1, and one of interface 3 is refused at the opening.
-- short: the program of docs/library.md is examples/min.rs, has 25 lines or fewer, and answers.
+- short: the program of docs/library.md is examples/min.rs of deltat-udp, has 26 lines or fewer, and answers.
 - echo: over a link that drops 1 of 100 datagrams the example answers 120 words, each once and in order, while
   strangers send to it and it is stopped eight times for 80 ms; opened again it is silent at first, and answers. On a
   machine that is slower than the parameters allow, what wasn't answered was reported as uncertain.
@@ -40,9 +40,9 @@ SYS_UDP = CRATES / "deltat-udp-sys" / "src" / "sys.rs"
 LIBRARY = pathlib.Path(os.environ.get("DELTAT_LIB_DIR", TOP / "lib")).resolve()
 C_TYPES = {"u8": "uint8_t", "u16": "uint16_t", "u32": "uint32_t", "u64": "uint64_t", "usize": "size_t", "bool": "bool",
            "f64": "double", "c_char": "char", "c_void": "void", "dt_status": "dt_status", "i32": "int32_t",
-           "c_int": "int"}
+           "c_int": "int", "i64": "int64_t"}
 ARCHIVES = ("libdeltat.a", "libdeltat-udp.a")
-LONGEST_PROGRAM = 25
+LONGEST_PROGRAM = 26
 # how often a service is stopped while it is asked
 STOPS = 8
 # the silence of nodes with the parameters of the examples, in seconds
@@ -246,6 +246,7 @@ def interfaces(folder: str) -> bool:
     former = pathlib.Path(folder, "former")
     of_interface(former, "dt_abi", 1)
     ran(["ar", "rcs", "libdeltat.a", "told.o"], 30, cwd=former)
+    shutil.copy(LIBRARY / ARCHIVES[1], former)
     it = cargo(f"{folder}/interfaces", "build", "--example", "min", DELTAT_LIB_DIR=str(former))
     right = it.returncode != 0 and "dt_abi_version" in it.stderr
     if not right:
@@ -315,7 +316,7 @@ def is_answered(what: str, it: subprocess.CompletedProcess[str], wanted: list[st
 
 
 def short(folder: str) -> bool:
-    program = (CRATES / "deltat" / "examples" / "min.rs").read_text()
+    program = (CRATES / "deltat-udp" / "examples" / "min.rs").read_text()
     page = (TOP / "docs" / "library.md").read_text()
     right = f"```rust\n{program}```\n" in page and len(program.splitlines()) <= LONGEST_PROGRAM
     if not right:

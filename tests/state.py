@@ -1,5 +1,5 @@
 #!/usr/bin/env python3
-"""The state folder of a node: bindings/python/deltat/state.py, and who else keeps its files. `tests/state.py [TEST ..]`;
+"""The state folder of a node: lib/udp/state.c, by deltat.State of Python, and who else keeps its files. `tests/state.py [TEST ..]`;
 ends with 77 where `make -C lib` hasn't made the library, and with 1 where one of these fails:
 
 - answers: what a start is, after no life, one that was closed in order, one that was killed, another boot, another
@@ -39,17 +39,19 @@ import subprocess
 import sys
 import tempfile
 import time
+import zlib
 from collections.abc import Iterator
 
 from lib import HOST, TOP, free_port, is_up, skip
 
-LIBRARY = TOP / "lib" / "libdeltat.so.2"
+LIBRARY = TOP / "lib" / "libdeltat-udp.so.1"
 if not LIBRARY.exists():
     skip(f"{LIBRARY} isn't there: make -C lib")
 sys.path.insert(0, str(TOP / "bindings" / "python"))
 import deltat  # noqa: E402
 from deltat import clock  # noqa: E402
 from deltat import state as state_module  # noqa: E402
+from deltat._library import drivers  # noqa: E402
 
 CAT = str(TOP / "tools" / "dtcat.py")
 # silent for 3 * 30 + 40 + 5 = 135 ms
@@ -57,6 +59,7 @@ PARAMS = deltat.Params(mpl=30, r=40, a=5, rto=10, probe=20, seg=100, cap=4096, r
 OTHER = deltat.Params(mpl=31, r=40, a=5, rto=10, probe=20, seg=100, cap=4096, rcap=4096, window=4096)
 QUIET = PARAMS.quiet_ms
 CHARGE = 10
+NO_BOOT = "00000000-0000-0000-0000-000000000000"
 FLOW = deltat.Flow(1, 10, 2, 20)
 
 
@@ -78,13 +81,13 @@ logging.getLogger("deltat").propagate = False
 
 @contextlib.contextmanager
 def machine(boot: str, clock: int | None = 0) -> Iterator[None]:
-    """A boot of a machine of the test's own."""
-    kept = state_module._boot, state_module._clock
-    state_module._boot, state_module._clock = (lambda: boot), (lambda: clock)
+    """A boot of a machine of the test's own. `clock` None: what it is ahead by can't be known."""
+    kept = state_module._machine
+    state_module._machine = lambda: (NO_BOOT, 0) if clock is None else (boot, clock)
     try:
         yield
     finally:
-        state_module._boot, state_module._clock = kept
+        state_module._machine = kept
 
 
 def boot_named(number: int) -> str:
@@ -97,6 +100,7 @@ def is_again(state: deltat.State) -> bool:
 
 def killed(state: deltat.State) -> None:
     """What a kill leaves of a state: its files are closed, and nothing is written."""
+    state._keeper.noted = 0
     state._end("killed")
 
 
@@ -139,7 +143,7 @@ def starts(folder: pathlib.Path) -> list[tuple[str, bool]]:
     with machine(boot_named(2), None):
         found.append(("a clock that isn't known", one_life(folder, [], 900) == (True, 900, 12)))
         found.append(("once more", one_life(folder, [], 950) == (True, 950, 13)))
-    with machine(state_module._NO_BOOT):
+    with machine(NO_BOOT):
         found.append(("a machine that names no boots", one_life(folder, [], 990) == (True, 990, 14) and one_life(folder, [], 999) == (True, 999, 15)))
     return found
 
@@ -256,19 +260,37 @@ except deltat.StateError as why: print(why, len(list(node.datagrams())), "frames
     return [("a disk that is full: nothing is sent", right), ("a disk that is full: nothing starts", told[1] == "OSError\n")]
 
 
-def documented() -> list[tuple[str, bool]]:
-    """The files that docs/formats.md shows are what this module reads and writes."""
+def with_check(text: str) -> bytes:
+    """The octets of a file, with their checksum as its last line."""
+    return text.encode() + b"check %08x\n" % zlib.crc32(text.encode())
+
+
+def documented(top: pathlib.Path) -> list[tuple[str, bool]]:
+    """The files that docs/formats.md shows are what is read and written."""
     shown = re.findall(r"^```example\n(deltat .*?)```$", (TOP / "docs" / "formats.md").read_text(), re.MULTILINE | re.DOTALL)
-    texts = {it.split()[1]: it.encode() for it in shown}
-    kept = state_module._Kept.read(texts.get("state", b""))
-    last = state_module._groups(state_module._LAST, texts.get("last", b""))
-    return [("the page's `state`", kept is not None and kept.octets() == texts["state"]), ("the page's `last`", last is not None and len(texts["last"]) == 125)]
+    texts = {it.split()[1]: it for it in shown}
+    node, *numbers, life = map(int, re.search(r"node (\d+)\nparams ([\d ]+)\nlife (\d+)", texts["state"]).expand(r"\1 \2 \3").split())
+    boot, ahead, until = re.search(r"boot (\S+)\nclock (\S+)\nuntil (\d+)", texts["last"]).groups()
+    folder = top / "documented"
+    folder.mkdir()
+    for name, text in texts.items():
+        (folder / name).write_text(text)
+    WARNED.lines.clear()
+    with machine(boot, int(ahead)), deltat.State(folder, node, deltat.Params(*numbers)) as state:
+        at = state.opens_at(int(until) + 1)
+        found = [("the page's files are read", (at, state.life, WARNED.lines) == (int(until), life + 1, []))]
+        state.note_packet(int(until) + state.params.quiet_ms)
+    for name, was, is_now in (("state", life, life + 1), ("last", int(until), int(until) + state.params.quiet_ms)):
+        width = 20 if name == "last" else 1
+        text = texts[name].partition("check ")[0].replace(f" {was:0{width}}\n", f" {is_now:0{width}}\n")
+        found.append((f"`{name}` is written as the page says", (folder / name).read_bytes() == with_check(text)))
+    return found
 
 
 def answers() -> bool:
     with tempfile.TemporaryDirectory() as folder:
         top = pathlib.Path(folder)
-        found = [*starts(top / "a" / "b"), *damages(top), *refusals(top), *with_nodes(top), *unwritable(top), *documented()]
+        found = [*starts(top / "a" / "b"), *damages(top), *refusals(top), *with_nodes(top), *unwritable(top), *documented(top)]
     wrong = [name for name, holds in found if not holds]
     print(f"answers: {len(found) - len(wrong)} of {len(found)} hold" + "".join(f"\n  wrong: {it}" for it in wrong))
     return not wrong
@@ -411,6 +433,7 @@ MOMENTS = (0, 1, QUIET, QUIET + 1, QUIET + QUIET // 4, 3 * QUIET, 3 * QUIET + 1)
 
 def child(folder: str, log: str, base: int) -> None:
     """The program that is killed. What it writes into the log has left."""
+    drivers()  # (its library is loaded before what is tried)
     told = os.open(log, os.O_WRONLY | os.O_APPEND | os.O_CREAT)
     with contextlib.suppress(OSError):
         os.open("/nowhere/begins", os.O_RDONLY)

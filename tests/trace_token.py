@@ -2,17 +2,21 @@
 """tools/trace_token.py over a recorded run: `tests/trace_token.py`.
 
 A client makes calls to a service (tests/udp/ends.c) through a relay, which writes what it receives and what it passes
-on as two captures. The relay loses each seventh segment that it sees for the first time. Of each call the tool must show
-its request, each frame that the relay saw, those that were sent again, and the answer; and by both captures which frames
-were lost. Then captures in other forms, one that is cut off, one that is damaged, a file that is none, a call that isn't
+on as two captures. The relay loses each seventh segment that it sees for the first time. Of each call the tool must
+show its request, each frame that the relay saw, those that were sent again, and the answer; and by both captures which
+frames were lost. Both ends record too (dt_udp_record): by their recordings the tool must show the same frames, when
+each program made the call, had the request, replied and had the answer, and the same of calls that waited in the
+driver. A recording ends at its `max_octets`, and when the disk is full, and the calls continue; tshark reads it, if it
+is there. Then captures in other forms, one that is cut off, one that is damaged, a file that is none, a call that isn't
 there, and lines of a node's log.
 
 Ends with 77 where there is no compiler or no archive.
 
-In tests/all: no words, 120 s."""
+In tests/all: no words, 240 s."""
 import pathlib
 import re
 import select
+import shutil
 import struct
 import subprocess
 import sys
@@ -79,8 +83,9 @@ def ran(*words: object) -> "subprocess.CompletedProcess[str]":
 
 
 def recorded(built: Built, folder: pathlib.Path) -> Recording:
-    """Runs the calls. What the relay saw is in came.pcap and went.pcap."""
-    service = End(built("ends"), "serve", "next", node=2, learns=10, r=4000)
+    """Runs the calls. What the relay saw is in came.pcap and went.pcap, what the ends recorded in client.pcapng and
+    service.pcapng."""
+    service = End(built("ends"), "serve", "next", node=2, learns=10, r=4000, record=folder / "service.pcapng")
     relay = Recording(service.port)
     relay.start()
     words = [
@@ -95,6 +100,7 @@ def recorded(built: Built, folder: pathlib.Path) -> Recording:
         "many=3",
         "timeout=20000",
         "r=4000",
+        f"record={folder / 'client.pcapng'}",
     ]
     try:
         said = subprocess.run([built("ends"), *words], capture_output=True, text=True, timeout=60, check=True).stdout
@@ -155,6 +161,83 @@ def shown(folder: pathlib.Path, tokens: list[str], relay: Recording) -> int:
     return losses
 
 
+WAY = [
+    *("program 1", "call: 3000 octets, 20000 ms"),
+    *("program 2", "request: 3000 octets", "program 2", "reply: 3000 octets"),
+    *("program 1", "answered: 3000 octets"),
+]
+
+
+def by_ends(folder: pathlib.Path, tokens: list[str]) -> None:
+    """Of each call the recordings of both ends show what the programs did, and each frame that the relay saw."""
+    files = (folder / "client.pcapng", folder / "service.pcapng")
+    wants(ran(*files).stdout.count("answered after") == CALLS, "calls are missing in the recordings")
+    for token in tokens:
+        lines = ran(*files, token).stdout.splitlines()
+        did = [re.split(r"  (?:client|service)\.", it.split("program ")[1])[0] for it in lines if " program " in it]
+        wants([part for it in did for part in (f"program {it[0]}", it[1:].strip())] == WAY, f"{token}: {did}")
+        frames = [it for it in lines if "life" in it or "acknowledged" in it]
+        seen = [it for it in ran(folder / "came.pcap", token).stdout.splitlines() if "life" in it]
+        own = {"client": "1", "service": "2"}
+        frames = [it for it in frames if "life" in it]
+        left = [it for it in frames if it.split("->")[0].split()[-1] == own[it.split()[-1].split(".")[0]]]
+        wants(len(left) == len(seen), f"{token}: {len(left)} frames left, and the relay saw {len(seen)}")
+        wants("program 1" in lines[3], f"{token}: {lines[3]}")
+
+
+def waited(built: Built, folder: pathlib.Path) -> int:
+    """Calls that waited in the driver are shown under the number of their frames."""
+    service = End(built("ends"), "serve", "next", node=2, learns=10)
+    words = ["ask", "next", "node=1", "peer=2", f"peer_host={HOST}", f"peer_port={service.port}", "count=300"]
+    words += ["octets=20000", "many=100", "timeout=20000", f"record={folder / 'waited.pcapng'}"]
+    try:
+        said = subprocess.run([built("ends"), *words], capture_output=True, text=True, timeout=60, check=True).stdout
+    finally:
+        service.stop()
+    wants("answered 300 unsure 0" in said, said)
+    listed_ = ran(folder / "waited.pcapng").stdout.splitlines()
+    wants(len(listed_) == 300 and all("answered after" in it for it in listed_), f"{len(listed_)} calls")
+    entries: list[trace_token.Entry] = []
+    list(trace_token.frames_of(folder / "waited.pcapng", entries))
+    entered = [it for it in entries if it.event == "enters"]
+    wants(len(entered) > 10, f"{len(entered)} calls waited")
+    token = f"{entered[-1].token.partition('#')[0]}#{entered[-1].text.rpartition(' ')[2]}"
+    shown_ = ran(folder / "waited.pcapng", token).stdout
+    parts = ("it waits in the driver", "enters: passed to the node", "answered: 20000")
+    wants(all(it in shown_ for it in parts), shown_)
+    return len(entered)
+
+
+def ends_early(built: Built, folder: pathlib.Path) -> None:
+    """The calls continue where a recording can't: on a full disk, and beyond its limit."""
+    service = End(built("ends"), "serve", "next", node=2, learns=10, record="/dev/full")
+    words = ["ask", "next", "node=1", "peer=2", f"peer_host={HOST}", f"peer_port={service.port}", "count=50"]
+    words += ["octets=3000", "record_octets=60000", f"record={folder / 'short.pcapng'}"]
+    try:
+        said = subprocess.run([built("ends"), *words], capture_output=True, text=True, timeout=60, check=True).stdout
+    finally:
+        service.stop()
+    wants("answered 50 unsure 0" in said, said)
+    size = (folder / "short.pcapng").stat().st_size
+    wants(50_000 < size <= 60_000, f"{size} octets are recorded")
+    wants("answered after" in ran(folder / "short.pcapng").stdout, "a recording that ended early isn't read")
+    words[-1] = f"record={folder}"
+    refused = subprocess.run([built("ends"), *words], capture_output=True, text=True, check=False)
+    wants(refused.returncode == 1 and "can't be made: Is a directory" in refused.stderr, refused.stderr)
+
+
+def wireshark(folder: pathlib.Path) -> str:
+    """tshark reads a recording whole, without a complaint."""
+    if not shutil.which("tshark"):
+        return "no tshark"
+    words = ["tshark", "-r", str(folder / "client.pcapng"), "-T", "fields", "-e", "udp.length", "-e", "frame.number"]
+    got = subprocess.run(words, capture_output=True, text=True, check=False, timeout=60)
+    frames = len(list(trace_token.frames_of(folder / "client.pcapng")))
+    there = sum(it.split("\t")[0] != "" for it in got.stdout.splitlines())
+    wants(got.returncode == 0 and there >= frames, f"{there} of {frames} frames: {got.stderr}")
+    return f"{len(got.stdout.splitlines())} records"
+
+
 def others(folder: pathlib.Path, token: str) -> int:
     """Other forms of captures, and what is refused."""
     plain = (folder / "came.pcap").read_bytes()
@@ -196,14 +279,22 @@ def main() -> int:
     with tempfile.TemporaryDirectory(prefix="deltat-trace-") as room:
         folder = pathlib.Path(room)
         try:
-            relay = recorded(Built(folder), folder)
+            built = Built(folder)
+            relay = recorded(built, folder)
             tokens = listed(folder)
             losses = shown(folder, tokens, relay)
+            by_ends(folder, tokens[::5])
+            waits = waited(built, folder)
+            ends_early(built, folder)
+            read = wireshark(folder)
             cases = others(folder, tokens[0])
         except (AssertionError, AttributeError, subprocess.SubprocessError) as why:
             print(f"FAILED: {type(why).__name__} {why}")
             return 1
-    print(f"{len(tokens)} calls are shown with each frame, {losses} of them lost; {cases} other captures and words")
+    print(
+        f"{len(tokens)} calls are shown with each frame, {losses} of them lost, by captures and by recordings; {waits} "
+        f"that waited; {read} for Wireshark; {cases} other captures and words"
+    )
     return 0
 
 

@@ -458,6 +458,14 @@ def driven(built: Built, folder: pathlib.Path) -> str:
     return f"3000 calls, up to {found[1]} events in a batch"
 
 
+def stamps(built: Built, folder: pathlib.Path) -> str:
+    """What a program's own call of a driven service made has the time of that call, and not that of a later call by the
+    driver, with which it leaves: else it would look younger than it is."""
+    ran = subprocess.run([built("stamps")], capture_output=True, text=True, timeout=PATIENCE, check=False)
+    wants(ran.returncode == 0, ran.stdout + ran.stderr[-2000:])
+    return ran.stdout.strip()
+
+
 def room(built: Built, folder: pathlib.Path) -> str:
     """Calls, messages and objects are refused when their settings are reached, an event says when there is room again,
     each call has its own user at its end, and a drain waits until nothing is outstanding."""
@@ -783,7 +791,7 @@ def state(built: Built, folder: pathlib.Path) -> str:
     client.ended()
     wants(until() == ended, "a start that is ended in its silence doesn't begin it anew")
     wants(
-        "of node 1, and this is node 3" in refused(node=3) and "other parameters" in refused(r=451),
+        "of node 1, and this is node 3" in refused(node=3) and "r was 450 and is 451" in refused(r=451),
         "other nodes and other parameters",
     )
     client = begin(count=0, r=451, flags=16)
@@ -860,6 +868,7 @@ CASES: list[Callable[[Built, pathlib.Path], str]] = [
     forked,
     threads,
     driven,
+    stamps,
     room,
     narrow,
     learnt,

@@ -10,17 +10,21 @@ import argparse
 import asyncio
 import contextlib
 import dataclasses
+import logging
 import multiprocessing
 import os
 import pathlib
+import re
 import socket
 import subprocess
 import sys
 import tempfile
 import threading
 import time
+import zlib
 from collections.abc import Callable, Iterator
 from contextlib import contextmanager
+from typing import NamedTuple
 
 from lib import HOST, TOP, free_port, skip
 
@@ -438,6 +442,175 @@ def alarms() -> str:
     return ", ".join([*found, "CLOCK"])
 
 
+# --- the state folder, of a node that dt_udp_open opens, and by deltat.State: for one that no driver drives, or that
+# keeps a record
+
+SHORT = deltat.Params(mpl=30, r=40, a=5, rto=10, probe=20, seg=100, cap=4096, rcap=4096, window=4096)
+LONGER = dataclasses.replace(SHORT, mpl=31)
+Files = dict[str, bytes]
+
+
+def with_check(text: str) -> bytes:
+    return text.encode() + b"check %08x\n" % zlib.crc32(text.encode())
+
+
+def kept(**more: object) -> bytes:
+    it = {"node": 1, "params": SHORT, "life": 7, **more}
+    numbers = " ".join(map(str, dataclasses.astuple(it["params"])))
+    return with_check(f"deltat state 1\nnode {it['node']}\nparams {numbers}\nlife {it['life']}\n")
+
+
+def folders(now: int) -> Iterator[tuple[str, Files, deltat.Params]]:
+    """Folders as earlier lives left them, and the parameters of the next one, which starts now."""
+    boot = pathlib.Path("/proc/sys/kernel/random/boot_id").read_text().strip()
+    ago, ahead, none = now - 60, now + 30, "00000000-0000-0000-0000-000000000000"
+
+    def last(until: int, boot: str = boot, clock: int = 0) -> bytes:
+        return with_check(f"deltat last 1\nboot {boot}\nclock {clock:+020d}\nuntil {until:020d}\n")
+
+    whole = {"lock": b"pid 1\n", "state": kept(), "last": last(ago)}
+    yield "new", {}, SHORT
+    yield "closed", whole, SHORT
+    yield "killed", {**whole, "last": last(ahead)}, SHORT
+    other = "11111111-1111-1111-1111-111111111111"
+    yield "before this start of the machine", {**whole, "last": last(ago, other)}, SHORT
+    yield "by another clock", {**whole, "last": last(ago, clock=-5)}, SHORT
+    yield "without a boot", {**whole, "last": last(ago, none)}, SHORT
+    for cut in (b"", whole["last"][:-1], whole["last"] + b"x", whole["last"].replace(b"u", b"v", 1)):
+        yield f"last of {len(cut)} octets", {**whole, "last": cut}, SHORT
+    for cut in (b"", whole["state"][:-1], whole["state"] + b"x", whole["state"].replace(b"life 7", b"life 8")):
+        yield f"state of {len(cut)} octets", {**whole, "state": cut}, SHORT
+    yield "without last", {"lock": b"", "state": kept()}, SHORT
+    yield "without state", {"lock": b"", "last": last(ago)}, SHORT
+    yield "a lock alone", {"lock": b""}, SHORT
+    yield "state.new alone", {"state.new": kept()}, SHORT
+    yield "a former node's stamp", {"node-1.stamp": b"5\n"}, SHORT
+    yield "another program's file", {"notes": b"5\n"}, SHORT
+    yield "other parameters", whole, LONGER
+    yield "longer parameters before", {**whole, "state": kept(params=LONGER)}, SHORT
+    yield "another node", {**whole, "state": kept(node=2)}, SHORT
+    yield "another node, damaged", {**whole, "state": kept(node=2)[:-1]}, SHORT
+    yield "the last life but one", {**whole, "state": kept(life=2**32 - 2)}, SHORT
+    yield "no more lives", {**whole, "state": kept(life=2**32 - 1)}, SHORT
+
+
+def files_of(folder: pathlib.Path) -> Files:
+    return {it.name: it.read_bytes() for it in folder.iterdir()}
+
+
+def without_moment(files: Files) -> tuple[Files, int | None]:
+    """The files, but for a life that was drawn and for the moment in `last`; and that moment. It has to be whole."""
+    found = dict(files)
+    life = re.search(rb"life (\d+)", found.get("state", b""))
+    until = re.search(rb"until (\d{20})", found.get("last", b""))
+    if life and int(life[1]) > 1 << 31 and int(life[1]) < 2**32 - 2:
+        wants(found["state"] == with_check(found["state"][: life.end() + 1].decode()), f"{found['state']}")
+        found["state"] = found["state"][: life.start()]
+    if not until:
+        return found, None
+    wants(found["last"] == with_check(found["last"][: until.end() + 1].decode()), f"{found['last']}")
+    found["last"] = found["last"][: until.start()]
+    return found, int(until[1])
+
+
+class Place(NamedTuple):
+    """A folder, the parameters of the next life in it, and the moment at which its files were made."""
+
+    folder: pathlib.Path
+    params: deltat.Params
+    now: int
+
+
+class Seen(NamedTuple):
+    """What a folder has after a step of a life, and the moments that the step was between."""
+
+    files: Files
+    before: int
+    after: int
+
+
+def lives_of(kind: str, place: Place, changed: bool) -> tuple[object, int, list[Seen]]:
+    """What a life in a folder is: its number, until when it is silent, and what it leaves when it is opened, after an
+    input, and closed. The number of one that is drawn is True."""
+    folder, params, since = place
+    seen = list[Seen]()
+
+    def see() -> None:
+        nonlocal since
+        seen.append(Seen(files_of(folder), since, deltat.now()))
+        since = deltat.now()
+
+    try:
+        if kind == "dt_udp_open":
+            with driver.Udp(1, params, 30, HOST, state=folder, flags=16 * changed) as udp:
+                life, silent_until = udp.life, deltat.now() + round(udp.silence * 1000)
+                see()
+                time.sleep(udp.silence + 0.01)
+                since = deltat.now()
+                udp.send(deltat.Flow(1, 10, 2, 20), b"noted")
+                see()
+        else:
+            with deltat.State(folder, 1, params, changed=changed) as state:
+                state.opens_at(deltat.now())
+                life, silent_until = state.life, deltat.now() + state.silence()
+                see()
+                time.sleep(state.silence() / 1000 + 0.01)
+                since = deltat.now()
+                state.note_packet(deltat.now())
+                see()
+    except (deltat.StateError, deltat.InvalidArgument):
+        see()
+        return "refused", 0, seen
+    since = seen[-1].before  # (what is closed has the moment of the input)
+    see()
+    return life > 1 << 31 or life, silent_until, seen
+
+
+def is_near(moments: tuple[int, int], one: Seen, other: Seen) -> bool:
+    """Whether two moments are one and the same, or as long after the steps that wrote them."""
+    ours, others = moments
+    return abs(ours - others) < 3 or (
+        ours - one.after <= others - other.before + 2 and others - other.after <= ours - one.before + 2
+    )
+
+
+def compare(name: str, changed: bool) -> None:
+    """Has a life of each kind begin in such a folder, whose moments are as long ago for both. What both answer and
+    leave has to be the same."""
+    found = []
+    for kind in ("dt_udp_open", "deltat.State"):
+        with tempfile.TemporaryDirectory() as top:
+            now, folder = deltat.now(), pathlib.Path(top) / "it"
+            files, params = next((files, params) for it, files, params in folders(now) if it == name)
+            folder.mkdir()
+            for file, octets in files.items():
+                (folder / file).write_bytes(octets)
+            found.append(lives_of(kind, Place(folder, params, now), changed))
+    (life, silent, left), (other_life, other_silent, other_left) = found
+    wants(life == other_life and len(left) == len(other_left), f"{name}: {found}")
+    is_over = silent <= left[0].after + 1 and other_silent <= other_left[0].after + 1
+    near = is_over or is_near((silent, other_silent), left[0], other_left[0])
+    wants(near, f"{name}: silent until {silent} and {other_silent}")
+    for one, other in zip(left, other_left):
+        (octets, at), (other_octets, other_at) = without_moment(one.files), without_moment(other.files)
+        wants(octets == other_octets and (at is None) == (other_at is None), f"{name}: {octets}, {other_octets}")
+        if at is not None and other_at is not None:
+            wants(is_near((at, other_at), one, other), f"{name}: until {at} and {other_at}: {one}, {other}")
+
+
+def same_folders() -> str:
+    """What a start by dt_udp_open and one by deltat.State answer and write is the same, after each way in which a life
+    may have ended: octet for octet, but for moments, which are as long after the steps that wrote them, and lives that
+    are drawn."""
+    names = [name for name, _, _ in folders(deltat.now())]
+    logging.getLogger("deltat").setLevel(logging.ERROR)
+    for changed in (False, True):
+        for name in names:
+            compare(name, changed)
+    logging.getLogger("deltat").setLevel(logging.NOTSET)
+    return f"{2 * len(names)} folders"
+
+
 def recorded() -> str:
     """Nodes that keep a record, with the watch: the record has the frames without their trailers."""
     with tempfile.TemporaryDirectory() as folder:
@@ -591,6 +764,7 @@ CASES = [
     busy_at_first,
     unlisted,
     alarms,
+    same_folders,
     recorded,
     large,
     short,

@@ -1,16 +1,16 @@
 #!/usr/bin/env python3
-"""The whole way of one call, from a capture of the network: its request, each frame of it, what was sent again, what
-was acknowledged, and its answer.
+"""The whole way of one call, from a recorded run: when the program made it, its request, each frame of it, what was
+sent again, what was acknowledged, when the service had it, its reply, its answer, and its end at the program.
 
-    tcpdump -w run.pcap udp port 4002        (while it runs)
-    tools/trace_token.py run.pcap                                lists the calls
-    tools/trace_token.py run.pcap 1:10>2:20#4294967296           shows one
+    tools/trace_token.py client.pcapng service.pcapng                          lists the calls
+    tools/trace_token.py client.pcapng service.pcapng 1:10>2:20#4294967296     shows one
 
-The file is a capture of tcpdump or Wireshark (pcap or pcapng, of Ethernet, loopback, `any` or IP), or of
-tools/capture.py. A call is its flow and its number, as in a token. With several files, such as those of both ends,
-each frame is shown in each of them: one that left and isn't in the other end's file was lost. Their clocks must agree.
---log LOG adds the lines of the flow of a node's log: its turns (docs/formats.md); its times count from the same moment
-as those of a capture by tools/capture.py.
+A file is a recording by the driver (dt_udp_record, `record` in Python and Rust), which has what the program did too; or
+a capture of tcpdump or Wireshark (pcap or pcapng, of Ethernet, loopback, `any` or IP), or of tools/capture.py. A call
+is its flow and its number, as in a token; one that waited in the driver has a number of its own at the program, and is
+named by that of its frames. With several files, such as those of both ends, each frame is shown in each of them: one
+that left and isn't in the other end's file was lost. Their clocks must agree. --log LOG adds the lines of the flow of a
+node's log: its turns (docs/formats.md); its times count from the same moment as those of a capture by tools/capture.py.
 
 Statuses: 0; 1 there is no such call; 2 a file can't be read, or the words are wrong."""
 import argparse
@@ -29,6 +29,8 @@ BEGIN, END = 2, 4
 LINKS = {0: 4, 1: 14, 12: 0, 101: 0, 113: 16, 228: 0, 229: 0, 276: 20}
 UDP, VLAN = 17, 0x8100
 TOKEN = re.compile(r"(\d+):(\d+)>(\d+):(\d+)#(\d+)")
+FIELD = re.compile(rb"^(\w+)=(.*)$", re.MULTILINE)
+JOURNAL = -1
 
 
 class NoCapture(Exception):
@@ -66,6 +68,21 @@ class Frame:
     @property
     def end(self) -> int:
         return (self.number + len(self.octets)) % 2**32
+
+
+@dataclass
+class Entry:
+    """What a program did or had: `event` is call, enters, request, reply, forget, answered or unsure."""
+
+    at: float
+    file: str
+    event: str
+    token: str
+    text: str
+
+    @property
+    def number(self) -> int:
+        return int(self.token.partition("#")[2])
 
 
 # --- captures
@@ -111,6 +128,8 @@ def _blocks(octets: bytes) -> Iterator[tuple[float, int, bytes]]:
         elif kind == 6:
             interface, high, low, there = struct.unpack_from(f"{order}4I", body)
             yield (high << 32 | low) * units[interface], links[interface], body[20 : 20 + there]
+        elif kind == 9:
+            yield 0.0, JOURNAL, body
         at += length
 
 
@@ -159,10 +178,25 @@ def _frame(at: float, file: str, octets: bytes) -> Frame | None:
     return Frame(at, file, kind, flow.reversed() if kind == ACKNOWLEDGEMENT else flow, number, flags, body, life, made)
 
 
-def frames_of(path: Path) -> Iterator[Frame]:
-    """The frames of a file. Raises OSError or NoCapture."""
+def _entry(file: str, octets: bytes) -> Entry | None:
+    """An entry of the driver, or None if it is another program's."""
+    fields = {name: value.decode(errors="replace") for name, value in FIELD.findall(octets)}
+    token = fields.get(b"DELTAT_TOKEN", "")
+    if not re.fullmatch(r"(\d+:\d+>\d+:\d+)?#\d+", token):
+        return None
+    at = int(fields.get(b"__REALTIME_TIMESTAMP", "0")) / 1e6
+    return Entry(at, file, fields.get(b"DELTAT_EVENT", ""), token, fields.get(b"MESSAGE", ""))
+
+
+def frames_of(path: Path, entries: list[Entry] | None = None) -> Iterator[Frame]:
+    """The frames of a file, and into `entries` those of its journal. Raises OSError or NoCapture."""
     try:
         for at, link, octets in _records(path.read_bytes()):
+            if link == JOURNAL:
+                entry = _entry(path.name, octets)
+                if entry and entries is not None:
+                    entries.append(entry)
+                continue
             datagram = _datagram(link, octets)
             frame = datagram and _frame(at, path.name, datagram)
             if frame:
@@ -255,6 +289,36 @@ class Messages:
         return True
 
 
+# --- entries
+
+
+class Entries:
+    """What programs did, by the tokens of the calls: the flow, and the number that frames have."""
+
+    def __init__(self, all_: list[Entry]) -> None:
+        self._of: dict[str, list[Entry]] = {}
+        # of each file: the token of a number of its program
+        names: dict[tuple[str, int], str] = {}
+        for it in sorted(all_, key=lambda it: it.at):
+            token = it.token
+            if it.event == "call":
+                names[it.file, it.number] = token
+            elif it.event == "enters":
+                as_ = it.text.rpartition(" ")[2]
+                token = names[it.file, it.number] = f"{it.token.partition('#')[0]}#{as_}"
+                self._of[token] = self._of.pop(it.token, [])
+            elif it.event in ("answered", "unsure"):
+                token = names.get((it.file, it.number), token)
+            self._of.setdefault(token, []).append(it)
+
+    def of(self, token: str) -> list[Entry]:
+        return self._of.get(token, [])
+
+    def tokens(self) -> list[str]:
+        """Those of calls."""
+        return [it for it in self._of if TOKEN.fullmatch(it)]
+
+
 # --- calls
 
 
@@ -299,12 +363,31 @@ def said(frame: Frame, how: str, name: str) -> str:
     return f"{kinds[how]}: {len(frame.octets)} octets from {frame.number}, {marks}, life {frame.life}"
 
 
-def lines_of(call: Call, files: list[str], log: list[str]) -> Iterator[str]:
-    """The picture of a call: a line for each frame, in the order of time."""
+def entry_rows(entries: list[Entry], files: list[str]) -> Iterator[tuple[float, list[str]]]:
+    """A line for each thing that a program did or had, with its node."""
+    flow = next((it.token for it in entries if TOKEN.fullmatch(it.token)), "")
+    caller, _, service = (re.split("[:>]", flow) + ["", "", ""])[:3]
+    for it in entries:
+        node = service if it.event in ("request", "reply", "forget") else caller
+        what, _, more = it.text.partition(" ")
+        more = more.partition(": ")[2]
+        yield it.at, [f"program {node}", f"{what}: {more}" if more else what, "", it.file if len(files) > 1 else ""]
+
+
+def shown_of(token: str, entries: list[Entry], files: list[str]) -> Iterator[str]:
+    """The picture of a call of which no frame was seen."""
+    yield f"{token}: no frame of it was seen"
+    rows = list(entry_rows(entries, files))
+    for at, columns in rows:
+        yield f"{(at - rows[0][0]) * 1000:10.3f}  {columns[0]:12} {columns[1]:52} {columns[3]}".rstrip()
+
+
+def lines_of(call: Call, files: list[str], log: list[str], entries: list[Entry]) -> Iterator[str]:
+    """The picture of a call: a line for each frame and each entry, in the order of time."""
     parts = [("request", call.request), *([("answer", call.answer)] if call.answer else [])]
     all_ = sorted(((frame, how, name) for name, it in parts for frame, how in it.frames), key=lambda it: it[0].at)
-    begun, made = all_[0][0].at, dict[int, int]()
-    rows = []
+    begun, made = min([all_[0][0].at, *(it.at for it in entries)]), dict[int, int]()
+    rows = list(entry_rows(entries, files))
     for frame, how, name in all_:
         sender = frame.flow.target if frame.kind == ACKNOWLEDGEMENT else frame.flow.source
         receiver = frame.flow.source if frame.kind == ACKNOWLEDGEMENT else frame.flow.target
@@ -359,18 +442,23 @@ def main() -> int:
     given = arguments()
     token = given.words[-1] if TOKEN.fullmatch(given.words[-1]) else None
     paths = [Path(it) for it in (given.words[:-1] if token else given.words)]
-    messages, frames = Messages(), list[Frame]()
+    messages, frames, noted = Messages(), list[Frame](), list[Entry]()
     try:
         for path in paths:
-            frames += frames_of(path)
+            frames += frames_of(path, noted)
         log = log_lines(given.log)
     except (OSError, NoCapture, UnicodeDecodeError) as why:
         print(f"trace_token.py: {path}: {why}", file=sys.stderr)
         return 2
     for frame in sorted(frames, key=lambda it: it.at):
         messages.take(frame)
-    calls = calls_of(messages.all)
+    calls, entries = calls_of(messages.all), Entries(noted)
     chosen = [it for it in calls if str(it) == token]
+    names = [path.name for path in paths]
+    unseen = [it for it in entries.tokens() if it not in set(map(str, calls))]
+    if token in unseen:
+        print("\n".join(shown_of(token, entries.of(token), names)))
+        return 0
     if token and not chosen:
         print(
             f"trace_token.py: there is no call {token} in {len(frames)} frames; without it the calls are listed",
@@ -378,10 +466,12 @@ def main() -> int:
         )
         return 1
     for it in chosen:
-        print("\n".join(lines_of(it, [path.name for path in paths], log)))
+        print("\n".join(lines_of(it, names, log, entries.of(str(it)))))
         print(counted(it))
     for it in [] if token else calls:
         print(f"{it}: {it.state}; {counted(it)}")
+    for name in [] if token else unseen:
+        print(f"{name}: no frame of it was seen")
     return 0
 
 

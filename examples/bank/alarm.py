@@ -1,6 +1,6 @@
 #!/usr/bin/env python3
-"""A bank whose disk is set back to a copy of a moment ago: by orders each client is told which of its transfers are gone;
-by idempotency keys nobody is told.
+"""A bank whose disk is set back to a copy of a moment ago: by orders each client is told which of its transfers are
+gone; by idempotency keys nobody is told.
 
     examples/bank/alarm.py [--clients N] [--transfers N]
 

@@ -1,26 +1,32 @@
-"""The bank's servers and clients, over calls between nodes and over TCP. `demo.py` starts them, kills them, and starts
-them again.
+"""The bank's servers and clients: by orders over calls between nodes, and over TCP. `demo.py` starts them, kills them,
+and starts them again.
 
-    bank.py serve|serve-tcp|serve-names|serve-synced FOLDER
+    bank.py serve|serve-tcp|serve-names|serve-keys FOLDER
     bank.py ask|ask-tcp FOLDER NUMBER UNTIL SEED
 
-`serve-names` and `serve-synced` serve over TCP, by a bank that remembers the names of orders in memory, or in files
-that are synced; their clients are those of `ask-tcp`.
+`serve-names` and `serve-keys` serve over TCP, by a bank that remembers the names of orders in memory, or as idempotency
+keys in the transaction of the order; their clients are those of `ask-tcp`.
 
 UNTIL is a moment in ms of `deltat.now()`: until then a client gives orders, and after it only finds out what became of
-them. In FOLDER are the journal of the bank, the notes of each client, and the state folders of their nodes."""
+them. In FOLDER are the bank's database, the log of orders and the notes of each client, and the state folders of their
+nodes."""
 import asyncio
 import os
 import pathlib
 import random
+import secrets
 import socket
+import sqlite3
 import sys
 import time
+from collections.abc import Callable
+from typing import TypeVar
 
-from accounts import ACCOUNTS, Bank, NamedBank, Notes, SyncedBank
+from accounts import ACCOUNTS, Bank, KeysBank, NamedBank, Notes, moment, prepare, told, transfer
 
 sys.path.insert(0, str(pathlib.Path(__file__).resolve().parents[2] / "bindings" / "python"))
 import deltat  # noqa: E402
+from deltat import orders  # noqa: E402
 
 PORT = 4_700
 # whether the ends are on this machine, with a relay between them (demo.py), or in two namespaces (tests/wan.py)
@@ -35,7 +41,11 @@ PARAMS = deltat.Params(mpl=252, r=450, a=5, rto=90, probe=180, seg=1442, cap=655
 CHARGE = 244
 # a request that was sent at once and its answer are over after 2 (r + mpl) and the bank's time
 TIMEOUT = 2.0
+# before an order is called again, at first and at most
+WAITS = (0.05, 1.0)
 DRAIN_MS = 15_000
+
+Found = TypeVar("Found")
 
 
 def bank_udp(folder: pathlib.Path) -> deltat.Udp:
@@ -50,15 +60,30 @@ def bank_udp(folder: pathlib.Path) -> deltat.Udp:
 
 def client_udp(node: deltat.Service) -> deltat.Udp:
     """A client's socket, whose only peer is the bank."""
-    return deltat.Udp(node, (CLIENT_HOST, PORT + node.number), {BANK: (BANK_HOST, PORT + (TO_BANK + node.number if IS_RELAYED else 0))})
+    peers = {BANK: (BANK_HOST, PORT + (TO_BANK + node.number if IS_RELAYED else 0))}
+    return deltat.Udp(node, (CLIENT_HOST, PORT + node.number), peers)
+
+
+def orders_bank(path: pathlib.Path) -> orders.Served:
+    """The bank by orders: a transfer is in the transaction of its order's row."""
+    served = orders.Served(orders.Sqlite(path))
+    prepare(served.database.connection)
+
+    @served.order
+    def execute(db: sqlite3.Connection, order: orders.Order) -> bytes:
+        return transfer(db, order.body.decode())
+
+    @served.read
+    def tell(db: sqlite3.Connection, question: bytes) -> bytes:
+        return told(db, question.decode())
+
+    return served
 
 
 def serve(folder: pathlib.Path) -> None:
-    bank = Bank(folder / "journal")
+    served = orders_bank(folder / "bank.db")
     with bank_udp(folder) as udp:
-        calls = deltat.Calls(udp)
-        for request in calls.requests():
-            calls.reply(request.token, bank.handle(request.payload))
+        served.run(deltat.Calls(udp), 20)
 
 
 class Client:
@@ -70,64 +95,91 @@ class Client:
         self.folder = folder / f"client-{number}"
         self.chance = random.Random(f"{seed} {number} {self.notes.new_life()}")
 
-    def order(self) -> str:
-        """A new order, which is written down before it is given."""
+    def transfer(self) -> str:
+        """What a new order is to do."""
         payer, payee = self.chance.sample(range(ACCOUNTS), 2)
-        return self.notes.new_order(f"{payer} {payee} {self.chance.randint(1, 50)}")
+        return f"{payer} {payee} {self.chance.randint(1, 50)}"
 
     def is_early(self) -> bool:
         return deltat.now() < self.until
 
-    def is_over(self) -> bool:
-        return not self.is_early() and (not self.notes.open_orders() or deltat.now() > self.until + DRAIN_MS)
+    def seconds_left(self) -> float:
+        """Until it stops to find out what became of its orders."""
+        return max(self.until + DRAIN_MS - deltat.now(), 0) / 1000
 
     def think(self) -> float:
         return self.chance.uniform(0, 0.1)
 
 
-class CallingClient(Client):
-    """Over calls: where it is unsure it asks, by another call on the same flow. An answer to that is the last word: the
-    order was handed out before the question, or never will be."""
+class OrderingClient(Client):
+    """By orders: each is in the client's log before it is called, and is called until it has its fate. If the bank was
+    set back, it notes which orders are gone, and goes on. Its notes are for demo.py alone: it doesn't read them."""
 
     def run(self) -> None:
         state = deltat.State(self.folder, self.number, PARAMS)
         node = deltat.Service(self.number, None, PARAMS, [deltat.Link(1, CHARGE)], {BANK: 1}, state=state)
         node.set_port(10, deltat.PortKind.CALLER)
-        with client_udp(node) as self.udp:
-            self.calls = deltat.Calls(self.udp)
-            while not self.is_over():
-                for order in self.notes.open_orders():
-                    self.look(order)
-                if self.is_early():
-                    self.give(self.order())
-                    self.udp.run_for(self.think())
-            if self.number == 1 and (told := self.asked(b"sum")):
-                self.notes.note(f"sum {told}")
+        with client_udp(node) as udp:
+            self.wire = orders.over(deltat.Calls(udp), deltat.Flow(self.number, 10, BANK, 20), TIMEOUT)
+            log = orders.Log(self.folder.with_suffix(".orders"))
+            with orders.Orders(self.sends, log, waits=WAITS, sleep=udp.run_for) as self.given:
+                try:
+                    self.go_on()
+                    while self.is_early():
+                        self.give(f"{secrets.token_hex(6)} {self.transfer()}")
+                        udp.run_for(self.think())
+                    if self.number == 1:
+                        self.notes.note(f"sum {self.alarmed(self.asked).decode()}")
+                except orders.StillOpen:
+                    pass
 
-    def asked(self, payload: bytes) -> str | None:
-        """What was answered, or None: it is unsure. Where it is declined it waits, and tries again."""
+    def go_on(self) -> None:
+        """With what earlier lives left."""
+        for order, fate in self.given.untaken():
+            self.ended(order, fate)
+        for order in self.given.unsettled:
+            self.settle(order, moment())
+
+    def give(self, body: str) -> None:
+        at = moment()
+        self.settle(self.alarmed(lambda: self.given.note(body.encode(), self.seconds_left())), at)
+
+    def settle(self, order: orders.Order, at: int) -> None:
+        name, _, what = order.body.decode().partition(" ")
+        if name not in self.notes.orders:
+            self.notes.new_order(name, what, at)
+        self.ended(order, self.alarmed(lambda: self.given.settle(order, self.seconds_left())))
+
+    def ended(self, order: orders.Order, fate: orders.Fate) -> None:
+        name, _, what = order.body.decode().partition(" ")
+        if name not in self.notes.orders:
+            self.notes.new_order(name, what, moment())
+        self.notes.new_fate(name, fate.result.decode() if isinstance(fate, orders.Done) else "unknown")
+
+    def asked(self) -> bytes:
+        return self.given.ask(b"sum", self.seconds_left())
+
+    def sends(self, request: bytes) -> bytes:
+        """One call. Counts how often its order was unsure."""
+        try:
+            return self.wire(request)
+        except deltat.Unsure:
+            for order in self.given.unsettled:
+                self.notes.note(f"unsure {order.body.decode().split()[0]}")
+            raise
+
+    def alarmed(self, does: Callable[[], Found]) -> Found:
+        """Does it, after each alarm again."""
         while True:
             try:
-                return self.calls.call(deltat.Flow(self.number, 10, BANK, 20), payload, TIMEOUT).decode()
-            except deltat.Unsure:
-                return None
-            except deltat.Declined as why:
-                self.udp.run_for(max(why.until - deltat.now(), 50) / 1000)
-
-    def give(self, order: str) -> None:
-        fate = self.asked(f"transfer {order} {self.notes.orders[order]}".encode())
-        if fate is None:
-            self.notes.note(f"unsure {order}")
-        else:
-            self.notes.new_fate(order, fate)
-
-    def look(self, order: str) -> None:
-        fate = self.asked(f"booked? {order}".encode())
-        if fate is not None:
-            self.notes.new_fate(order, fate)
+                return does()
+            except orders.SetBack as why:
+                for order in why.undone:
+                    self.notes.note(f"undone {order.body.decode().split()[0]}")
+                self.given.adopt()
 
 
-OVER_TCP = {"serve-tcp": Bank, "serve-names": NamedBank, "serve-synced": SyncedBank}
+OVER_TCP = {"serve-tcp": Bank, "serve-names": NamedBank, "serve-keys": KeysBank}
 """The banks that are served over TCP."""
 
 
@@ -165,6 +217,15 @@ class TcpClient(Client):
         if self.number == 1 and (told := self.asked(b"sum\n")):
             self.notes.note(f"sum {told}")
 
+    def order(self) -> str:
+        """A new order, which is written down before it is given."""
+        name = f"{self.number}.{len(self.notes.orders)}"
+        self.notes.new_order(name, self.transfer(), moment())
+        return name
+
+    def is_over(self) -> bool:
+        return not self.is_early() and (not self.notes.open_orders() or not self.seconds_left())
+
     def asked(self, request: bytes) -> str | None:
         """What was answered, or None: there was no connection, it broke, or it took too long."""
         self.is_unsure = False
@@ -193,10 +254,10 @@ def main() -> None:
     if word == "serve":
         serve(pathlib.Path(folder))
     elif word in OVER_TCP:
-        asyncio.run(serve_tcp(OVER_TCP[word](pathlib.Path(folder, "journal"))))
+        asyncio.run(serve_tcp(OVER_TCP[word](pathlib.Path(folder, "bank.db"))))
     else:
         number, until, seed = map(int, words)
-        kind: type[CallingClient | TcpClient] = CallingClient if word == "ask" else TcpClient
+        kind: type[OrderingClient | TcpClient] = OrderingClient if word == "ask" else TcpClient
         kind(pathlib.Path(folder), number, until, seed).run()
 
 

@@ -1,15 +1,16 @@
 #!/usr/bin/env python3
-"""A bank whose servers and clients are killed, over a link that drops, repeats and reorders: by calls, and over TCP
-without and with names of orders that the bank remembers.
+"""A bank whose servers and clients are killed, over a link that drops, repeats and reorders: by orders of deltat, and
+over TCP without and with names of orders that the bank remembers.
 
     examples/bank/demo.py [--seconds S] [--seed N] [--loss P] [--repeat P] [--late P] [--keep FOLDER] [--relay]
+    examples/bank/demo.py --set-back [..]
 
-20 clients give orders to a bank of 100 accounts, and write each of them down before. It runs four times:
+20 clients give orders to a bank of 100 accounts, whose books are in SQLite. It runs four times:
 
-- calls: an order is given once, by a call, and a client that is unsure asks what became of it;
+- orders: over calls, by deltat.orders: each order is in its client's log before, and is called until it has its fate;
 - TCP: an order is given again until it is answered;
 - TCP+names: likewise, and the bank remembers the name of each order with its answer, in memory;
-- TCP+synced: likewise, in files that are synced before it answers.
+- TCP+keys: likewise, as an idempotency key in the transaction of the order.
 
 The link is that of tests/wan.py, two network namespaces with 20 ms between them each way,
 which wants root and /dev/net/tun. Where there are none, or with --relay, both ends are on this machine, and a relay
@@ -17,11 +18,16 @@ between them does the same to the datagrams of calls; TCP has no losses and no d
 0.7 s, the bank every 10 s, each at a random moment, and started again. After the time that was asked for nobody is
 killed any more, and each client finds out what became of its last orders.
 
-Then the journal of the bank is compared with the notes of all clients. Ends with 0 if by calls the sum of the accounts
+Then the books of the bank are compared with the notes of all clients. Ends with 0 if by orders the sum of the accounts
 is what it was, no order was booked twice, and the fate of each order is the one that its client noted; else with 1. The
 table has the same counts of the other three, and what each way took. Times from a kill have the 0 to 300 ms after which
 the program is started again, and its start. At last the first answer is measured over the same delay without losses, a
-flow or a connection of its own for each, and how long one line takes to be written and synced."""
+flow or a connection of its own for each, and how long one transaction takes to be synced.
+
+With --set-back it runs twice, by orders and by keys, and beside all this the bank's disk is copied after a quarter of
+the time, and after three quarters the copy takes its place, as after a restore from a backup: with the usual 120 s it
+is a copy of a minute ago. By orders each client is told which of its orders are gone. Ends with 0 if these are exactly
+the ones that are gone, and by keys some are gone too, of which nobody is told."""
 import argparse
 import asyncio
 import heapq
@@ -32,34 +38,37 @@ import pathlib
 import random
 import select
 import socket
+import sqlite3
 import statistics
 import subprocess
 import sys
 import tempfile
 import threading
 import time
-from collections import Counter
-from collections.abc import Iterable
+from collections.abc import Callable, Iterable
 
 HERE = pathlib.Path(__file__).resolve().parent
 sys.path[:0] = [str(HERE), str(HERE.parents[1] / "tests"), str(HERE.parents[1] / "bindings" / "python")]
 
 import bank  # noqa: E402
 import deltat  # noqa: E402
-from accounts import ACCOUNTS, START, Bank, Notes, moment  # noqa: E402
+from accounts import ACCOUNTS, START, Bank, Notes, answers, balances, moment  # noqa: E402
+from deltat import orders  # noqa: E402
 from wan import Bound, Carrier, Link, Outcome, impaired_link, stop  # noqa: E402
 
 DELAY = 20
 KILL_CLIENT, KILL_BANK = 0.7, 10.0
 FIRSTS, SYNCS = 20, 100
-SYNCED = "TCP+synced"
+ORDERS, KEYS = "orders", "TCP+keys"
 # what the bank and its clients are started with
 WAYS = {
-    "calls": ("serve", "ask"),
+    ORDERS: ("serve", "ask"),
     "TCP": ("serve-tcp", "ask-tcp"),
     "TCP+names": ("serve-names", "ask-tcp"),
-    SYNCED: ("serve-synced", "ask-tcp"),
+    KEYS: ("serve-keys", "ask-tcp"),
 }
+# the parts of the time after which the bank's disk is copied, and is set back to the copy
+COPIED, SET_BACK = 0.25, 0.75
 # what a row of the table has
 Cell = int | float | None
 
@@ -67,8 +76,12 @@ Cell = int | float | None
 class Keeper:
     """Programs that are killed at random moments, and started again."""
 
-    def __init__(self, commands: dict[str, list[str]], each: float, until: int, chance: random.Random, kills: pathlib.Path) -> None:
+    def __init__(
+        self, commands: dict[str, list[str]], each: float, until: int, chance: random.Random, kills: pathlib.Path
+    ) -> None:
         self.commands, self.each, self.until, self.chance, self.kills = commands, each, until, chance, kills
+        # what is done at which moments beside the kills, in their order
+        self.plan: list[tuple[float, Callable[[], None]]] = []
         self.running: dict[str, "subprocess.Popen[bytes]"] = {}
         # those that were killed, and when they start again
         self.due = {name: 0 for name in commands}
@@ -83,6 +96,14 @@ class Keeper:
         self.running.pop(name).wait()
         self.due[name] = now + self.chance.randint(0, 300)
 
+    def stop_all(self) -> None:
+        """Kills all; they start again at once."""
+        for name, it in self.running.items():
+            it.kill()
+            it.wait()
+            self.due[name] = 0
+        self.running.clear()
+
     def go(self) -> int:
         """Until each has ended by itself. Ends with 1 where one failed."""
         kill_at = deltat.now() + 1000 * self.chance.expovariate(1 / self.each)
@@ -91,6 +112,8 @@ class Keeper:
             for name in [name for name, at in self.due.items() if at <= now]:
                 del self.due[name]
                 self.running[name] = subprocess.Popen([sys.executable, *self.commands[name]])
+            while self.plan and self.plan[0][0] <= now:
+                self.plan.pop(0)[1]()
             if kill_at <= now < self.until and self.running:
                 self.kill(now)
                 kill_at = now + 1000 * self.chance.expovariate(1 / self.each)
@@ -106,7 +129,7 @@ class Keeper:
 
 def keep(words: list[str]) -> int:
     """One side of the link: the bank, or all clients."""
-    side, way, folder, until, seed = words
+    side, way, folder, until, seed, *moments = words
     serve, ask = WAYS[way]
     program = str(HERE / "bank.py")
     chance = random.Random(f"{side} {seed}")
@@ -115,7 +138,27 @@ def keep(words: list[str]) -> int:
     else:
         commands = {f"client {it}": [program, ask, folder, str(it), until, seed] for it in range(1, bank.CLIENTS + 1)}
     each = KILL_BANK if side == "bank" else KILL_CLIENT
-    return Keeper(commands, each, int(until), chance, pathlib.Path(folder) / f"killed-{side}").go()
+    keeper = Keeper(commands, each, int(until), chance, pathlib.Path(folder) / f"killed-{side}")
+    if moments and side == "bank":
+        copied, back = map(float, moments)
+        path, copy = pathlib.Path(folder) / "bank.db", pathlib.Path(folder) / "bank.copy"
+        keeper.plan = [(copied, lambda: copy_of(path, copy)), (back, lambda: set_back(keeper, path, copy))]
+    return keeper.go()
+
+
+def copy_of(path: pathlib.Path, copy: pathlib.Path) -> None:
+    """Copies a database, which may be in use, as it is after one of its transactions."""
+    db = sqlite3.connect(path, timeout=30)
+    db.execute("VACUUM INTO ?", (str(copy),))
+    db.close()
+
+
+def set_back(keeper: Keeper, path: pathlib.Path, copy: pathlib.Path) -> None:
+    """The copy takes the place of the bank's database."""
+    keeper.stop_all()
+    for it in (path, path.with_name(path.name + "-wal"), path.with_name(path.name + "-shm")):
+        it.unlink(missing_ok=True)
+    copy.rename(path)
 
 
 def kills(folder: pathlib.Path, side: str) -> list[tuple[str, int]]:
@@ -152,23 +195,32 @@ def times(folder: pathlib.Path, notes: list[Notes]) -> dict[str, Cell]:
 
 
 def outcome(folder: pathlib.Path) -> dict[str, Cell]:
-    """What the journal and the notes say."""
-    books = Bank(folder / "journal")
+    """What the books and the notes say."""
+    executed = answers(folder / "bank.db")
+    booked = {name: count for name, found in executed.items() if (count := found.count("booked"))}
     notes = [Notes(folder / f"client-{it}.notes", it) for it in range(1, bank.CLIENTS + 1)]
-    orders = {order: fate for it in notes for order, fate in {**dict.fromkeys(it.orders), **it.fates}.items()}
-    journal = Counter(line.split()[0] for line in (folder / "journal").read_text().splitlines())
+    fates = {order: fate for it in notes for order, fate in {**dict.fromkeys(it.orders), **it.fates}.items()}
+    undone = {order for it in notes for order in it.undone}
+    known = {order: fate for order, fate in fates.items() if fate and fate != "unknown"}
+    gone = {order for order in known if order not in executed}
     sums = [told for it in notes for told in it.sums]
     return {
-        "orders": len(orders),
-        "booked": len(journal),
-        "booked more than once": sum(it > 1 for it in journal.values()),
-        "times an order was unsure": sum(it.doubts for it in notes),
-        "told otherwise than it is booked": sum((fate == "booked") != (order in journal) for order, fate in orders.items() if fate),
-        "not found out": sum(not fate for fate in orders.values()),
-        "booked, and given by nobody": sum(it not in orders for it in journal),
+        "orders": len(fates),
+        "booked": len(booked),
+        "booked more than once": sum(it > 1 for it in booked.values()),
+        "times an order was unsure": sum(it.doubts.total() for it in notes),
+        "told otherwise than it is booked": sum(
+            (fate == "booked" and order not in undone) != (order in booked) for order, fate in known.items()
+        ),
+        "told as unknown": sum(fate == "unknown" for fate in fates.values()),
+        "not found out": sum(not fate for fate in fates.values()),
+        "booked, and given by nobody": sum(it not in fates for it in booked),
+        "answered, and the bank has it no more": len(gone),
+        "of these their clients were told": len(gone & undone),
+        "told as gone, and the bank has it": sum(it in executed for it in undone),
         "kills of clients": len(kills(folder, "clients")),
         "kills of the bank": len(kills(folder, "bank")),
-        "the sum, less what it was": sum(books.accounts) - ACCOUNTS * START,
+        "the sum, less what it was": balances(folder / "bank.db") - ACCOUNTS * START,
         "sums that clients were told wrongly": sum(it != ACCOUNTS * START for it in sums),
         **times(folder, notes),
     }
@@ -241,15 +293,18 @@ def has_namespaces() -> bool:
         return False
 
 
-def over(way: str, link: Link, seconds: float, seed: int, folder: pathlib.Path) -> dict[str, Cell]:
+def over(way: str, link: Link, given: argparse.Namespace, folder: pathlib.Path) -> dict[str, Cell]:
     """A run of the bank over a link."""
     folder.mkdir()
-    until = deltat.now() + round(1000 * seconds) + 1_000
-    words = [sys.executable, str(HERE / "demo.py"), "keep"]
-    commands = [[*words, side, way, str(folder), str(until), str(seed)] for side in ("bank", "clients")]
-    ran = linked(commands, link, Bound(seconds + 60), seed)
+    until = deltat.now() + round(1000 * given.seconds) + 1_000
+    words = [sys.executable, str(HERE / "demo.py")]
+    commands = [[*words, "keep", side, way, str(folder), str(until), str(given.seed)] for side in ("bank", "clients")]
+    if given.set_back:
+        commands[0] += [str(until - 1000 * given.seconds * (1 - it)) for it in (COPIED, SET_BACK)]
+    ran = linked(commands, link, Bound(given.seconds + 60), given.seed)
     if ran.stopped or any(ran.statuses):
-        raise SystemExit(f"demo: {way}: the clients ended with {ran.statuses[1]}" + (", stopped" if ran.stopped else ""))
+        stopped = ", stopped" if ran.stopped else ""
+        raise SystemExit(f"demo: {way}: the clients ended with {ran.statuses[1]}{stopped}")
     print(f"{way}: {ran.counts if ran.counts.went else 'without losses'}", flush=True)
     found = outcome(folder)
     each = round(ran.counts.went / found["booked"], 1) if ran.counts.went and found["booked"] else None
@@ -260,25 +315,31 @@ def over(way: str, link: Link, seconds: float, seed: int, folder: pathlib.Path) 
 
 
 def first_serve(folder: pathlib.Path) -> None:
-    """Both banks at once, each with its journal."""
+    """Both banks at once, each with its books."""
     other = folder / "tcp"
     other.mkdir(exist_ok=True)
-    threading.Thread(target=lambda: asyncio.run(bank.serve_tcp(Bank(other / "journal"))), daemon=True).start()
+
+    def serves_tcp() -> None:
+        asyncio.run(bank.serve_tcp(Bank(other / "bank.db")))
+
+    threading.Thread(target=serves_tcp, daemon=True).start()
     bank.serve(folder)
 
 
 def first_ask(folder: pathlib.Path) -> None:
     """How long a first answer takes, in ms: on a flow, or a connection, that was never used."""
     time.sleep(1)
-    took: dict[str, list[float]] = {"calls": [], "TCP": []}
+    took: dict[str, list[float]] = {ORDERS: [], "TCP": []}
     node = deltat.Service(1, 1, bank.PARAMS, [deltat.Link(1, bank.CHARGE)], {bank.BANK: 1}, start=deltat.Start.FIRST)
     with bank.client_udp(node) as udp:
         calls = deltat.Calls(udp)
         for at in range(FIRSTS):
             node.set_port(10 + at, deltat.PortKind.CALLER)
-            begun = time.monotonic()
-            calls.call(deltat.Flow(1, 10 + at, bank.BANK, 20), b"balance 7", 5.0)
-            took["calls"].append(1000 * (time.monotonic() - begun))
+            wire = orders.over(calls, deltat.Flow(1, 10 + at, bank.BANK, 20))
+            with orders.Orders(wire, orders.Log(folder / f"first-{at}"), sleep=udp.run_for) as given:
+                begun = time.monotonic()
+                given.ask(b"balance 7")
+                took[ORDERS].append(1000 * (time.monotonic() - begun))
             client = bank.TcpClient(folder, 2, 0, at)
             begun = time.monotonic()
             client.asked(b"balance 7\n")
@@ -289,14 +350,13 @@ def first_ask(folder: pathlib.Path) -> None:
 
 
 def synced(path: pathlib.Path) -> float:
-    """How long a line takes until it is written and synced, in ms: the median of some."""
-    took = []
-    with path.open("ab", buffering=0) as it:
-        for _ in range(SYNCS):
-            begun = time.monotonic()
-            it.write(b"1.0 3 4 10\n")
-            os.fdatasync(it.fileno())
-            took.append(1000 * (time.monotonic() - begun))
+    """How long a transaction takes until it is synced, in ms: the median of some."""
+    took, db = [], Bank(path).db
+    for it in range(SYNCS):
+        begun = time.monotonic()
+        db.execute("INSERT INTO answered VALUES (?, 'booked')", (str(it),))
+        took.append(1000 * (time.monotonic() - begun))
+    db.close()
     return statistics.median(took)
 
 
@@ -309,23 +369,45 @@ def firsts(folder: pathlib.Path) -> dict[str, float]:
         raise SystemExit("demo: the first answers didn't come")
     took = {way: statistics.median(it) for way, it in json.loads((folder / "first").read_text()).items()}
     over_tcp = None if bank.IS_RELAYED else took["TCP"]
-    return {way: it for way in WAYS if (it := took["calls"] if way == "calls" else over_tcp) is not None}
+    return {way: it for way in WAYS if (it := took[ORDERS] if way == ORDERS else over_tcp) is not None}
 
 
-def table(found: dict[str, dict[str, Cell]], first: dict[str, float], sync: float) -> str:
+def table(found: dict[str, dict[str, Cell]]) -> str:
     names = list(next(iter(found.values())))
     lines = [["", *found]]
     lines += [[name, *("-" if it[name] is None else str(it[name]) for it in found.values())] for name in names]
-    lines.append([f"first answer, {DELAY} ms each way", *(f"{first[way]:.0f} ms" if way in first else "-" for way in found)])
-    lines.append(["a line that is written and synced", *(f"{sync:.2f} ms" if way == SYNCED else "-" for way in found)])
     return "\n".join(f"{it[0]:44}" + "".join(f"{word:>12}" for word in it[1:]) for it in lines)
+
+
+def measured(folder: pathlib.Path) -> dict[str, dict[str, Cell]]:
+    """Of each way, what is measured without kills."""
+    first, sync = firsts(folder / "firsts"), synced(folder / "synced.db")
+    answer, commit = f"ms to a first answer, {DELAY} ms each way", "ms of a transaction that is synced"
+    return {way: {answer: round(first[way]) if way in first else None, commit: round(sync, 2)} for way in WAYS}
+
+
+WRONG = (
+    "booked more than once",
+    "told otherwise than it is booked",
+    "booked, and given by nobody",
+    "the sum, less what it was",
+    "sums that clients were told wrongly",
+    "not found out",
+)
+"""What there is none of, if the promise is kept."""
 
 
 def is_kept(it: dict[str, Cell]) -> bool:
     """Whether the promise was kept, and something happened."""
-    wrong = ("booked more than once", "told otherwise than it is booked", "booked, and given by nobody", "the sum, less what it was",
-             "sums that clients were told wrongly")
-    return not any(it[name] for name in wrong) and bool(it["booked"] and it["kills of clients"])
+    return not any(it[name] for name in (*WRONG, "told as unknown")) and bool(it["booked"] and it["kills of clients"])
+
+
+def is_told(by: dict[str, dict[str, Cell]]) -> bool:
+    """Whether by orders each client was told exactly what a set back took, and by keys something was taken too."""
+    it = by[ORDERS]
+    gone, told, wrongly = list(it.values())[list(it).index("answered, and the bank has it no more") :][:3]
+    is_exact = bool(gone) and gone == told and not wrongly and not any(it[name] for name in WRONG)
+    return is_exact and bool(by[KEYS]["answered, and the bank has it no more"])
 
 
 def demonstrate(folder: pathlib.Path, given: argparse.Namespace) -> int:
@@ -335,11 +417,17 @@ def demonstrate(folder: pathlib.Path, given: argparse.Namespace) -> int:
         importlib.reload(bank)
     link = Link(DELAY, given.loss, given.repeat, given.late)
     place = "a relay on this machine" if bank.IS_RELAYED else "two namespaces by tests/wan.py"
-    print(f"{DELAY} ms each way; of 100 packets {100 * link.loss:.0f} dropped, {100 * link.dup:.0f} repeated, {100 * link.reorder:.0f} late by up to "
-          f"{2 * DELAY} ms more; {place}; {given.seconds:.0f} s, seed {given.seed}", flush=True)
-    found = {way: over(way, link, given.seconds, given.seed, folder / way) for way in WAYS}
-    print(table(found, firsts(folder / "firsts"), synced(folder / "synced")))
-    return 0 if is_kept(found["calls"]) else 1
+    print(f"{DELAY} ms each way; of 100 packets {100 * link.loss:.0f} dropped, {100 * link.dup:.0f} repeated, "
+          f"{100 * link.reorder:.0f} late by up to {2 * DELAY} ms more; {place}; {given.seconds:.0f} s, "
+          f"seed {given.seed}", flush=True)
+    ways = (ORDERS, KEYS) if given.set_back else WAYS
+    found = {way: over(way, link, given, folder / way) for way in ways}
+    if given.set_back:
+        print(table(found))
+        return 0 if is_told(found) else 1
+    rows = measured(folder)
+    print(table({way: it | rows[way] for way, it in found.items()}))
+    return 0 if is_kept(found[ORDERS]) else 1
 
 
 def main() -> int:
@@ -352,13 +440,15 @@ def main() -> int:
         first_ask(pathlib.Path(sys.argv[2]))
         return 0
     reads = argparse.ArgumentParser(description=__doc__, formatter_class=argparse.RawDescriptionHelpFormatter)
-    reads.add_argument("--seconds", type=float, default=60)
+    reads.add_argument("--seconds", type=float, help="of each way: 60, and 120 with --set-back")
     reads.add_argument("--seed", type=int, default=1)
     for name in ("loss", "repeat", "late"):
         reads.add_argument(f"--{name}", type=float, default=0.05, metavar="P")
     reads.add_argument("--keep", type=pathlib.Path, metavar="FOLDER", help="where journals and notes stay")
     reads.add_argument("--relay", action="store_true", help="without namespaces, also where there are some")
+    reads.add_argument("--set-back", action="store_true", help="the bank's disk is set back to a copy")
     given = reads.parse_args()
+    given.seconds = given.seconds or (120.0 if given.set_back else 60.0)
     if given.keep:
         given.keep.mkdir(parents=True)
         return demonstrate(given.keep, given)

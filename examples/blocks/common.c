@@ -1,15 +1,8 @@
 /* What both programs share. */
 #include "common.h"
-#include <errno.h>
 #include <signal.h>
 #include <stdarg.h>
-#include <stdio.h>
-#include <stdlib.h>
-#include <string.h>
 #include <sys/signalfd.h>
-#include <time.h>
-
-enum { SOCKET_MS = 20 }; /* of the charge that dt_params_for computes */
 
 void die(const char *format, ...) {
     va_list words;
@@ -28,40 +21,24 @@ void *memory(void *got) {
     return got;
 }
 
-double real_of(const char *word, double least, double most) {
-    char *end;
-    double value = strtod(word, &end);
-    if (*word == 0 || *end || !(value >= least && value <= most))
-        die("%s: isn't a number from %g to %g", word, least, most);
-    return value;
+struct network network_of(const char *word) {
+    double delay = -1, round_trip = -1;
+    struct dt_network network = DT_NETWORK(0, 0);
+    struct network it = {.params = {.size = sizeof it.params}};
+    (void)sscanf(word, "%lf,%lf,%u", &delay, &round_trip, &network.mtu);
+    bool is_some = delay >= 0 && delay < 60000 && round_trip >= 0 && round_trip < 60000;
+    network.delay_us = is_some ? (uint64_t)(delay * 1000) : 0;
+    network.round_trip_us = is_some ? (uint64_t)(round_trip * 1000) : 0;
+    if (!is_some || dt_udp_params_for(&network, &it.params, &it.charge) != DT_OK)
+        die("%s: is no DELAY,ROUND-TRIP[,MTU] for which there are parameters", word);
+    return it;
 }
 
-long whole_of(const char *word, long least, long most) {
-    double value = real_of(word, (double)least, (double)most);
-    if (value != (double)(long)value) die("%s: isn't a whole number", word);
-    return (long)value;
-}
-
-uint64_t clock_us(void) {
-    struct timespec it;
-    if (clock_gettime(CLOCK_BOOTTIME, &it) != 0) die_of_errno("CLOCK_BOOTTIME");
-    return (uint64_t)it.tv_sec * 1000000 + (uint64_t)it.tv_nsec / 1000;
-}
-
-struct network network_usual(void) { return (struct network){.delay_ms = 2, .round_trip_ms = 0.3, .mtu = 1500}; }
-
-void network_option(struct network *it, int option, const char *value) {
-    if (option == 'd') it->delay_ms = real_of(value, 0, 60000);
-    if (option == 'r') it->round_trip_ms = real_of(value, 0, 60000);
-    if (option == 'm') it->mtu = whole_of(value, 576, 65535);
-}
-
-void network_compute(struct network *it) {
-    struct dt_network network = DT_NETWORK((uint64_t)(it->delay_ms * 1000), (uint64_t)(it->round_trip_ms * 1000));
-    network.mtu = (uint32_t)it->mtu - DT_UDP_TRAILER; /* (behind each datagram) */
-    it->params = (struct dt_params){.size = sizeof it->params};
-    if (dt_params_for(&network, &it->params, &it->charge) != DT_OK) die("no parameters suit such a network");
-    it->charge -= SOCKET_MS; /* (the driver measures the wait in the socket, and takes it off by itself) */
+struct address address_of(char *word) {
+    char *colon = strrchr(word, ':');
+    if (colon == NULL) die("%s: is no HOST:PORT", word);
+    *colon = 0;
+    return (struct address){word, colon + 1};
 }
 
 int signals_fd(void) {
@@ -69,16 +46,23 @@ int signals_fd(void) {
     sigemptyset(&ends);
     sigaddset(&ends, SIGTERM);
     sigaddset(&ends, SIGINT);
-    if (sigprocmask(SIG_BLOCK, &ends, NULL) != 0) die_of_errno("sigprocmask");
-    int fd = signalfd(-1, &ends, SFD_CLOEXEC | SFD_NONBLOCK);
+    int fd = sigprocmask(SIG_BLOCK, &ends, NULL) == 0 ? signalfd(-1, &ends, SFD_CLOEXEC | SFD_NONBLOCK) : -1;
     if (fd < 0) die_of_errno("signalfd");
     return fd;
 }
 
-dt_udp *udp_open(const struct dt_udp_options *options) {
+dt_udp *udp_open(const struct dt_udp_options *options, uint16_t first_port, uint16_t ports, uint8_t kind) {
     struct dt_udp_error error;
     dt_udp *udp = dt_udp_open(options, &error);
     if (udp == NULL) die("%s", error.text);
     if (dt_udp_fd(udp) < 0) die_of_errno("dt_udp_fd");
+    for (uint16_t i = 0; i < ports; i++)
+        if (dt_udp_open_port(udp, first_port + i, kind) != DT_OK) die("port %d isn't opened", first_port + i);
     return udp;
+}
+
+void udp_judge(const struct dt_udp_event *event) {
+    if (event->kind == DT_UDP_EVENT_FAILED) die("the driver failed: %s", dt_status_name(event->cause));
+    if (event->kind == DT_UDP_EVENT_TOO_BIG) die("datagrams don't fit the path: lower the MTU");
+    if (event->kind == DT_UDP_EVENT_ALARM) fprintf(stderr, "blocks: alarm %u of node %u\n", event->cause, event->peer);
 }

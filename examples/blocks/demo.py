@@ -37,7 +37,7 @@ BLOCKS, SIZE = 64, 4096
 SERVER_HOST, TCP_PORT, CALLS_PORT = wan.ADDRESSES[0], "10809", "10890"
 # the link has 20 ms each way; 60 ms are allowed, since this machine may be busy
 DELAY, ALLOWED = 20.0, 60
-NETWORK = ["--delay", str(ALLOWED), "--round-trip", str(2 * DELAY)]
+NETWORK = f"{ALLOWED},{2 * DELAY:.0f}"
 WAYS = ("TCP", "calls")
 FIRST, OLD, NEW = "first", "old", "new"
 
@@ -155,7 +155,7 @@ def client_side(folder: pathlib.Path, cut: float, watch: float) -> None:
         uri = f"nbd://{SERVER_HOST}:{TCP_PORT}"
         if way == "calls":
             door = folder / f"{which}.sock"
-            start(f"gateway-{which}", str(folder / "gateway"), f"{SERVER_HOST}:{CALLS_PORT}", str(door), *NETWORK)
+            start(f"gateway-{which}", str(folder / "gateway"), NETWORK, f"{SERVER_HOST}:{CALLS_PORT}", str(door))
             uri = f"nbd+unix:///?socket={door}"
         start(f"{way}-{which}", python_with_nbd(), __file__, f"{which}-client", uri, str(folder), way)
 
@@ -196,7 +196,8 @@ def client_side(folder: pathlib.Path, cut: float, watch: float) -> None:
 def server_side(folder: pathlib.Path) -> int:
     """Both servers, until this process is stopped."""
     tcp = ["nbdkit", "-f", "-i", SERVER_HOST, "-p", TCP_PORT, "file", str(folder / "TCP.disk")]
-    calls = [str(folder / "server"), str(folder / "calls.disk"), str(folder / "state"), "--host", SERVER_HOST, *NETWORK]
+    door = f"{SERVER_HOST}:{CALLS_PORT}"
+    calls = [str(folder / "server"), NETWORK, str(folder / "calls.disk"), str(folder / "state"), door]
     with (folder / "server.log").open("wb") as log:
         running = [subprocess.Popen(it, stderr=log) for it in (tcp, calls)]
         signal.signal(signal.SIGTERM, lambda *_: sys.exit(0))

@@ -6,213 +6,124 @@
  * can be done any more. Only then may the client write there again: old copies < repeat < answer < newer write. */
 #include "flows.h"
 #include "common.h"
-#include <errno.h>
-#include <stdlib.h>
-#include <string.h>
 
-enum { FIRST_PORT = 1000, MOST_DOUBLED = 5, FLUSHED = 16384 };
+enum { WAIT_MS = 16 }; /* for each call under way: so long a part may wait for another to pass */
 
-static void set_free(struct flows *flows, struct flow *flow) {
-    flow->part = NULL;
-    flow->next = NULL;
-    *(flows->free ? &flows->last_free->next : &flows->free) = flow;
-    flows->last_free = flow;
+struct demand *flows_add(struct flows *flows, void *client, const bool *is_gone, const struct request *request) {
+    size_t len = has_data(request) ? request->length : 0;
+    uint32_t parts = len ? (uint32_t)(len - 1) / MAX_PART + 1 : 1;
+    struct demand *it = memory(malloc(sizeof *it + len));
+    *it = (struct demand){
+        .client = client, .is_gone = is_gone, .request = *request, .parts = parts, .writes = flows->writes};
+    *(flows->first ? &flows->last->next : &flows->first) = it;
+    return flows->last = it;
 }
-
-void flows_open(struct flows *flows, unsigned count) {
-    flows->count = count;
-    for (unsigned i = 0; i < count; i++) {
-        struct flow *flow = &flows->all[i];
-        flow->port = (uint16_t)(FIRST_PORT + i);
-        set_free(flows, flow);
-        if (dt_udp_open_port(flows->udp, flow->port, DT_PORT_CALLER) != DT_OK) die("port %u isn't opened", flow->port);
-    }
-}
-
-/* --- demands and parts */
-
-void demand_free(struct demand *demand) {
-    free(demand->parts);
-    free(demand->data);
-    free(demand);
-}
-
-void flows_add(struct flows *flows, struct demand *demand) {
-    const struct request *it = &demand->request;
-    bool is_cut = it->op == OP_READ || it->op == OP_WRITE;
-    uint32_t each = is_cut ? flows->part_octets : UINT32_MAX;
-    uint32_t count = it->length ? (it->length - 1) / each + 1 : 1;
-    demand->parts = memory(calloc(count, sizeof *demand->parts));
-    demand->parts_left = count;
-    demand->writes = flows->writes;
-    for (uint32_t i = 0; i < count; i++) {
-        struct part *part = &demand->parts[i];
-        uint32_t done = i * each;
-        *part = (struct part){NULL, demand, it->offset + done, it->length - done < each ? it->length - done : each};
-        *(flows->first ? &flows->last->next : &flows->first) = part;
-        flows->last = part;
-    }
-}
-
-static uint8_t *data_of(const struct part *part) {
-    return part->demand->data + (part->offset - part->demand->request.offset);
-}
-
-/* How many octets of the window a part takes. */
-static size_t weight(const struct part *part) {
-    uint8_t op = part->demand->request.op;
-    return 2 * HEADER + (op == OP_READ || op == OP_WRITE ? part->length : 0);
-}
-
-void flows_abandon(struct flows *flows, const void *client) {
-    for (struct part **at = &flows->first; *at;) {
-        struct part *part = *at;
-        if (part->demand->client != client) {
-            flows->last = part;
-            at = &part->next;
-            continue;
-        }
-        *at = part->next;
-        if (--part->demand->parts_left == 0) demand_free(part->demand);
-    }
-    for (unsigned i = 0; i < flows->count; i++) {
-        struct part *part = flows->all[i].part;
-        if (part && part->demand->client == client) flows->left_behind++;
-    }
-    for (unsigned i = 0; i < flows->count; i++) {
-        struct part *part = flows->all[i].part;
-        if (part && part->demand->client == client) part->demand->client = NULL;
-    }
-}
-
-/* --- calls */
 
 /* What is asked on a flow. The write of a client that is gone isn't made again: a hello in its place is answered once
  * that write was done, or never will be. */
 static struct request asked(const struct flows *flows, const struct flow *flow) {
-    const struct part *part = flow->part;
-    struct request it = part->demand->request;
-    if (part->demand->client == NULL && flow->tries > 0) it = (struct request){.op = OP_HELLO};
-    else it.offset = part->offset, it.length = part->length;
+    struct request it = flow->demand->request;
+    uint32_t from = flow->part * MAX_PART;
+    if (*flow->demand->is_gone && flow->tries > 0) it = (struct request){.op = OP_HELLO};
+    if (has_data(&it)) it.length = it.length - from < MAX_PART ? it.length - from : MAX_PART;
+    it.version = VERSION;
     it.generation = flows->generation;
+    it.offset += from;
     return it;
 }
 
+/* (If there is no room, an event says when there is. An event says what else failed.) */
 static void call(struct flows *flows, struct flow *flow) {
     struct request it = asked(flows, flow);
-    struct dt_flow way = {flows->node, SERVER, flow->port, SERVICE_PORT};
     size_t len = it.op == OP_WRITE ? it.length : 0;
-    put_request(flows->octets, &it);
-    if (len) memcpy(flows->octets + HEADER, data_of(flow->part), len);
-    uint32_t doubled = flow->tries < MOST_DOUBLED ? flow->tries : MOST_DOUBLED;
-    struct dt_call_result made =
-        dt_udp_call(flows->udp, &way, flows->octets, HEADER + len, flows->timeout_ms << doubled);
-    flow->under_way = made.status == DT_OK;
-    if (!flow->under_way) { /* (full: its earlier call is still being given up. Other failures are events) */
-        flows->put_off++;
-        flows->counts.full++;
-        return;
-    }
-    flow->made_us = clock_us();
-    flow->call = made.call;
-    flow->next = flows->of_call[made.call % TABLE];
-    flows->of_call[made.call % TABLE] = flow;
-    flows->counts.calls++;
-    flows->counts.again += flow->tries > 0;
-    window_made(&flows->window, weight(flow->part));
-    if (len >= FLUSHED) dt_udp_flush(flows->udp); /* (a node keeps few datagrams for its link) */
+    uint16_t at = (uint16_t)(flow - flows->all);
+    uint32_t patience = flows->timeout_ms << (flow->tries < 5 ? flow->tries : 5);
+    struct dt_udp_call_options options = {.size = sizeof options,
+                                          .timeout_ms = patience + flows->busy * WAIT_MS,
+                                          .flow = {flows->node, SERVER, FIRST_PORT + at, SERVICE_PORT},
+                                          .user = ++flow->calls * FLOWS + at};
+    request_turn(&it);
+    memcpy(flows->octets, &it, HEADER);
+    memcpy(flows->octets + HEADER, flow->demand->data + flow->part * MAX_PART, len);
+    flow->under_way = dt_udp_make_call(flows->udp, &options, flows->octets, HEADER + len).status == DT_OK;
 }
 
-static void call_again(struct flows *flows) {
-    flows->put_off = 0;
-    for (unsigned i = 0; i < flows->count; i++) {
-        struct flow *flow = &flows->all[i];
-        if (flow->part == NULL || flow->under_way) continue;
-        if (window_has_room(&flows->window, weight(flow->part))) call(flows, flow);
-        else flows->put_off++;
-    }
+/* If the server is another process now, the calls that its last one had are made again, behind themselves. */
+static void watch_server(struct flows *flows) {
+    uint64_t openings = dt_udp_get_counts(flows->udp)->openings_proved;
+    bool is_new = flows->openings > 0 && openings > flows->openings;
+    flows->openings = openings;
+    for (struct flow *flow = flows->all; is_new && flow < flows->all + FLOWS; flow++)
+        if (flow->under_way) flow->tries++, call(flows, flow);
 }
 
-bool flows_go(struct flows *flows) {
-    uint64_t before = flows->counts.calls;
-    if (flows->put_off) call_again(flows);
-    while (flows->first && flows->free && window_has_room(&flows->window, weight(flows->first))) {
-        struct flow *flow = flows->free;
-        flows->free = flow->next;
-        flow->part = flows->first;
-        flows->first = flow->part->next;
-        flow->tries = 0;
-        call(flows, flow);
+static struct flow *free_flow(struct flows *flows) {
+    for (unsigned i = 0; i < FLOWS; i++) {
+        struct flow *flow = &flows->all[flows->turn++ % FLOWS];
+        if (flow->demand == NULL) return flow;
     }
-    return flows->counts.calls > before;
+    return NULL;
 }
 
-/* --- answers */
+/* A part of a demand is done, or never will be called. */
+static void count_part(struct flows *flows, struct demand *demand) {
+    if (++demand->answered < demand->parts) return;
+    demand->next = flows->done;
+    flows->done = demand;
+}
 
-static struct flow *take_flow(struct flows *flows, uint64_t call) {
-    struct flow **at = &flows->of_call[call % TABLE];
-    while (*at && (*at)->call != call) at = &(*at)->next;
-    struct flow *flow = *at;
-    if (flow) {
-        *at = flow->next;
-        flow->under_way = false;
+void flows_go(struct flows *flows) {
+    watch_server(flows);
+    for (struct demand *it; (it = flows->first) != NULL;) {
+        struct flow none = {.calls = 0}, *flow = *it->is_gone ? &none : free_flow(flows);
+        if (flow == NULL) return;
+        *flow = (struct flow){.demand = it, .part = it->called++, .calls = flow->calls};
+        if (it->called == it->parts) flows->first = it->next;
+        if (flow == &none) count_part(flows, it);
+        else flows->busy++, call(flows, flow);
     }
-    return flow;
 }
 
 /* Which writes a flush covers: all that were answered before it was asked, if the server's machine kept its cache
  * since. Each answer names the boot of that machine. */
 static void note_boot(struct flows *flows, struct demand *demand, const struct answer *answer) {
     uint8_t op = demand->request.op;
-    if (op != OP_FLUSH && op != OP_WRITE && op != OP_TRIM && op != OP_ZERO) return;
-    if (flows->is_unflushed && answer->boot != flows->boot) {
-        flows->losses++;
-        flows->is_unflushed = false;
-    }
+    bool is_lost = answer->boot != flows->boot && flows->writes > flows->flushed;
+    bool is_flushed = op == OP_FLUSH && answer->error == 0 && demand->writes > flows->flushed;
+    flows->losses += is_lost;
+    flows->flushed = is_lost ? flows->writes : is_flushed ? demand->writes : flows->flushed;
+    flows->writes += op == OP_WRITE || op == OP_TRIM || op == OP_ZERO;
     flows->boot = answer->boot;
-    if (op != OP_FLUSH) {
-        flows->is_unflushed = true;
-        flows->writes++;
-    } else if (answer->error == 0 && flows->writes == demand->writes) flows->is_unflushed = false;
     demand->losses = flows->losses;
 }
 
-static void note_answer(struct flows *flows, const struct part *part, const struct answer *answer,
-                        const struct dt_udp_event *event) {
-    struct demand *demand = part->demand;
-    uint32_t error = answer->error;
-    note_boot(flows, demand, answer);
-    flows->counts.refused += error == ESTALE;
-    flows->size = answer->size;
-    bool is_read = demand->request.op == OP_READ && error == 0;
-    if (is_read && event->len - HEADER != part->length) error = EIO;
-    else if (is_read) memcpy(data_of(part), event->octets + HEADER, part->length);
-    if (error) demand->error = error;
-    if (demand->request.op == OP_HELLO || demand->request.op == OP_TAKE_OVER) flows->generation = answer->generation;
+static void note_answer(struct flows *flows, const struct flow *flow, const struct dt_udp_event *event) {
+    struct demand *demand = flow->demand;
+    size_t len = event->len - HEADER;
+    struct answer it;
+    memcpy(&it, event->octets, HEADER);
+    answer_turn(&it);
+    note_boot(flows, demand, &it);
+    flows->size = it.size;
+    if (is_barrier(&demand->request)) flows->generation = it.generation;
+    bool is_read = demand->request.op == OP_READ && it.error == 0;
+    if (is_read && len != asked(flows, flow).length) it.error = EIO;
+    else if (is_read) memcpy(demand->data + flow->part * MAX_PART, event->octets + HEADER, len);
+    if (it.error) demand->error = it.error;
 }
 
-void flows_ended(struct flows *flows, const struct dt_udp_event *event, flows_done done, void *of) {
-    struct flow *flow = take_flow(flows, event->call);
-    if (flow == NULL) return;
-    struct part *part = flow->part;
-    struct answer answer;
-    uint64_t now_us = clock_us();
-    bool is_answered = event->kind == DT_UDP_EVENT_ANSWERED && get_answer(&answer, event->octets, event->len);
-    bool is_timed = is_answered && flow->tries == 0 && weight(part) > 2 * HEADER;
-    double took_us = is_timed ? (double)(now_us - flow->made_us) - answer.took_us : -1;
-    window_ended(&flows->window, weight(part), flow->made_us, now_us, took_us);
-    if (!is_answered) {
-        flow->tries += flow->tries < UINT8_MAX;
-        flows->counts.unsure++;
-        flows->put_off++;
-        window_shrink(&flows->window);
-        return;
-    }
-    struct demand *demand = part->demand;
-    if (demand->client) note_answer(flows, part, &answer, event);
-    else flows->left_behind--;
-    set_free(flows, flow);
-    if (--demand->parts_left > 0) return;
-    if (demand->client) done(demand, of);
-    else demand_free(demand);
+void flows_take(struct flows *flows, const struct dt_udp_event *event) {
+    struct flow *flow = &flows->all[event->user % FLOWS];
+    bool is_answer = event->kind == DT_UDP_EVENT_ANSWERED, is_end = is_answer || event->kind == DT_UDP_EVENT_UNSURE;
+    bool is_last = is_end && event->user / FLOWS == flow->calls; /* (the end of one that was made again is none) */
+    if (is_last) flow->under_way = false;
+    if (is_last && is_answer && event->len >= HEADER) {
+        struct demand *demand = flow->demand;
+        if (!*demand->is_gone) note_answer(flows, flow, event);
+        flow->demand = NULL;
+        flows->busy--;
+        count_part(flows, demand);
+    } else if (is_last) flow->tries++, call(flows, flow);
+    for (flow = flows->all; event->kind == DT_UDP_EVENT_ROOM && flow < flows->all + FLOWS; flow++)
+        if (flow->demand && !flow->under_way) call(flows, flow);
 }

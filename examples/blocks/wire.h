@@ -1,40 +1,44 @@
-/* What a gateway asks of the server, and what the server answers: each is one call. Numbers are big-endian. */
-#ifndef BLOCKS_WIRE_H
-#define BLOCKS_WIRE_H
+/* What a gateway asks of the server, and what the server answers: each is one call. On the wire numbers are
+ * big-endian. */
+#pragma once
+#include <endian.h>
 #include <stdbool.h>
-#include <stddef.h>
 #include <stdint.h>
 
-enum {
-    SERVER = 1, /* the number of the server's node */
-    SERVICE_PORT = 20,
-    HEADER = 32,      /* octets of a request before what is written, and of an answer before what was read */
-    MAX_PART = 61440  /* octets that one call reads or writes, at most */
-};
-
+enum { SERVER = 1 /* its node */, SERVICE_PORT = 20, VERSION = 2 };
+enum { HEADER = 24, MAX_PART = 32768 }; /* octets of a request or an answer; of the data behind it, at most */
 enum op { OP_READ = 1, OP_WRITE, OP_FLUSH, OP_TRIM, OP_ZERO, OP_HELLO, OP_TAKE_OVER };
 
-enum { FLAG_FUA = 1, FLAG_NO_HOLE = 2 };
-
 struct request {
-    uint8_t op, flags;
-    uint32_t generation; /* of the gateway: one below the server's is refused with ESTALE */
-    uint32_t length;
+    uint8_t version, op, syncs, zero;
+    uint32_t generation; /* of the gateway: one below the server's is refused with EPERM */
+    uint32_t length, zeroes;
     uint64_t offset;
 };
 
 struct answer {
-    uint32_t error;      /* 0, or an errno */
+    uint32_t error;      /* 0, or EPERM, EIO, ENOMEM, EINVAL or ENOSPC */
     uint32_t generation; /* of the server now */
-    uint32_t took_us;    /* from the request to the answer, in the server */
     uint64_t boot;       /* another one: the server's machine lost what wasn't flushed */
     uint64_t size;       /* of the disk, in octets */
 };
 
-void put_number(uint8_t *at, uint64_t value, int octets);
-uint64_t get_number(const uint8_t *at, int octets);
-void put_request(uint8_t *at, const struct request *request);
-bool get_request(struct request *request, const uint8_t *at, size_t len); /* false: it is no request */
-void put_answer(uint8_t *at, const struct answer *answer);
-bool get_answer(struct answer *answer, const uint8_t *at, size_t len);
-#endif
+static inline bool has_data(const struct request *it) { return it->op == OP_READ || it->op == OP_WRITE; }
+
+/* Whether all requests before it are done when it begins, and none after it has begun: then the gateway whose hello is
+ * answered knows that nothing of what was handed out before it lands any more. */
+static inline bool is_barrier(const struct request *it) { return it->op == OP_HELLO || it->op == OP_TAKE_OVER; }
+
+/* Each turns numbers of the wire into those of the machine, or the other way round. */
+static inline void request_turn(struct request *it) {
+    it->generation = htobe32(it->generation);
+    it->length = htobe32(it->length);
+    it->offset = htobe64(it->offset);
+}
+
+static inline void answer_turn(struct answer *it) {
+    it->error = htobe32(it->error);
+    it->generation = htobe32(it->generation);
+    it->boot = htobe64(it->boot);
+    it->size = htobe64(it->size);
+}

@@ -115,6 +115,13 @@ static bool may_wait(const dt_udp *u, const struct dt_udp_call_options *o, size_
            len + 8 <= u->options.params->cap && at >= u->quiet_until;
 }
 
+static void record_call(dt_udp *u, const struct dt_udp_call_options *o, size_t len, const struct dt_call_result *made,
+                        bool waits) {
+    struct called it = {
+        .call = made->call, .len = len, .timeout_ms = o->timeout_ms, .status = made->status, .waits = waits};
+    dtu_record_call(u, &o->flow, &it);
+}
+
 struct dt_call_result dt_udp_make_call(dt_udp *u, const struct dt_udp_call_options *o, const void *octets,
                                        size_t len) {
     uint64_t at = 0;
@@ -127,9 +134,11 @@ struct dt_call_result dt_udp_make_call(dt_udp *u, const struct dt_udp_call_optio
     if (may_wait(u, o, len, at) && dtu_govern_waits(u, peer, &o->flow, len)) {
         made = dtu_govern_keep_call(u, peer, o, &payload);
         dtu_count_call(u, &made);
+        record_call(u, o, len, &made, true);
         return made;
     }
     made = dtu_core_make_call(&u->core, at, o, &payload);
+    record_call(u, o, len, &made, false);
     if (made.status == DT_OK) u->open_calls++;
     note_full(u, made.status);
     dtu_judge(u);
@@ -154,10 +163,12 @@ struct dt_reply_result dt_udp_reply(dt_udp *u, const struct dt_token *token, con
     struct dt_reply_result replied;
     if (len + 8 <= u->options.params->cap && dtu_govern_waits(u, peer, &token->flow, len)) {
         replied = dtu_govern_keep_reply(u, peer, token, &payload);
+        dtu_record_reply(u, token, len, replied.status);
         dtu_count_reply(u, &replied);
         return replied;
     }
     replied = dtu_core_reply(&u->core, at, token, &payload);
+    dtu_record_reply(u, token, len, replied.status);
     note_full(u, replied.status);
     dtu_judge(u);
     dtu_govern_count(u, peer);
@@ -171,6 +182,7 @@ dt_status dt_udp_forget(dt_udp *u, const struct dt_token *token) {
     dt_status status = begin(u, u->core.service, &at);
     if (status != DT_OK) return status;
     status = dtu_core_forget(&u->core, at, token);
+    if (status == DT_OK) dtu_record_forgotten(u, token);
     dtu_judge(u);
     return status;
 }

@@ -189,7 +189,7 @@ static void publish_counts(dt_udp *u, struct counting *c) {
 /* When the node's silence ends, in ms of CLOCK_BOOTTIME; 0: not known, or there is none. */
 static uint64_t quiet_until(const dt_udp *u, const struct counting *c) {
     if (u->quiet_until) return u->quiet_until;
-    return u->driven.keeper ? u->driven.keeper->since : c->quiet_until;
+    return u->keeper ? u->keeper->since : c->quiet_until;
 }
 
 /* Writes what was counted until now. */

@@ -1,5 +1,5 @@
 /* Nodes that the program opened, with links of their own: the neighbours at the ends of the links, the functions that
- * stand for those of the handle, and the program's state folder. */
+ * stand for those of the handle. */
 #include "udp.h"
 #include <errno.h>
 #include <stdlib.h>
@@ -25,16 +25,6 @@ dt_udp *dt_udp_drive(const struct dt_udp_driven *driven, const struct dt_udp_opt
 }
 
 void dtu_driven_close(dt_udp *u) { free(u->driven.there); }
-
-/* Notes an input for the program's state folder, before it is done. False: it must not be done. */
-bool dtu_driven_note(dt_udp *u, uint64_t at) {
-    struct dt_udp_keeper *it = u->driven.keeper;
-    if (it == NULL || at < it->since) return true;
-    errno = 0; /* (a folder that can't be written is the program's to explain) */
-    if (at > it->until && !it->extend(it->user, at)) return false;
-    if (at > it->noted) it->noted = at;
-    return true;
-}
 
 /* --- neighbours */
 

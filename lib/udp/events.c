@@ -196,6 +196,7 @@ bool dtu_events_next(dt_udp *u, uint8_t *room) {
     bool some = next_too_big(u) || dtu_govern_event(u) || next_room(u) || next_report(u) || dtu_objects_event(u) ||
                 (u->core.service ? next_of_service(u, room) : next_message(u));
     if (some) dtu_count_event(u, u->event.kind, u->event.cause, u->event.call);
+    if (some) dtu_record_event(u, &u->event);
     return some;
 }
 

@@ -84,7 +84,7 @@ static uint64_t aim_of(const dt_udp *u, const struct governor *g) {
 
 void dtu_govern_begin(struct governor *g, uint64_t now_us) {
     *g = (struct governor){.base = {DT_NEVER, DT_NEVER}, .turned_us = now_us, .round_us = now_us, .heard_us = now_us,
-                           .credit_us = now_us, .fast = true};
+                           .credit_us = now_us, .least_us = DT_NEVER, .fast = true};
 }
 
 /* The longest delay in queues that is ever let pass: half of what the life leaves, and so little that nothing goes again
@@ -104,7 +104,10 @@ static bool is_beside_others(const dt_udp *u, struct governor *g, uint64_t queue
         g->above = g->beside = 0;
         g->target_us = aim;
     }
-    if (queue > aim && g->above < LONG_ABOVE) g->above++;
+    if (g->above < LONG_ABOVE) {
+        if (queue > aim) g->above++;
+        else if (g->above) g->above--; /* (another of ours shrinks too, so it isn't above for long) */
+    }
     if (g->above < LONG_ABOVE) return false;
     uint64_t most = most_target(u, base_of(g), aim), more = g->target_us + g->target_us / 4;
     g->target_us = more < most ? more : most;
@@ -126,6 +129,9 @@ static int lost_of(struct watch *it, uint16_t heard, uint16_t *went) {
     return 0;
 }
 
+/* Whether more than one of so many datagrams of a round was lost. */
+static bool is_lossy(int lost, uint16_t went, int many) { return lost >= 3 && lost * many > went; }
+
 /* A round of ours is over: what was sent in it was heard. The window follows its delay in queues. */
 static void end_round(dt_udp *u, struct watch *it, uint16_t heard, uint64_t now_us) {
     struct governor *g = &it->governor;
@@ -133,9 +139,12 @@ static void end_round(dt_udp *u, struct watch *it, uint16_t heard, uint64_t now_
     uint16_t went;
     int more = lost_of(it, heard, &went);
     bool beside = is_beside_others(u, g, queue, aim), probes = beside && g->beside % PROBE_ROUNDS < 2;
-    /* losses without a queue aren't ours, and beside others few of them are */
-    bool lossy = more >= 3 && went && more * (beside ? 4 : 20) > went && queue > aim / 8;
-    if (lossy || !g->limited || queue >= aim / 4) g->low = 0;
+    /* what was in the queue all the round: a late wake of either end raises the mean only */
+    uint64_t standing = g->least_us > base ? g->least_us - base : 0;
+    /* losses without a queue aren't ours, and beside others few of them are; a short queue is empty at times */
+    bool lossy = (standing > aim / 8 && is_lossy(more, went, beside ? 4 : 20)) ||
+                 (queue > aim / 8 && is_lossy(more, went, beside ? 4 : 12));
+    if (lossy || !g->limited || standing >= aim / 8 || queue >= aim / 2 || is_lossy(more, went, 50)) g->low = 0;
     else if (g->low < LONG_LOW) g->low++;
     if (probes) (void)dt_watch_shrink(it->rules, 500); /* (if the queue was ours, it is empty then) */
     else if (lossy) (void)dt_watch_shrink(it->rules, (uint32_t)(more * 1000 / went));
@@ -144,8 +153,11 @@ static void end_round(dt_udp *u, struct watch *it, uint16_t heard, uint64_t now_
         (void)dt_watch_grow(it->rules, (g->fast && queue < aim / 2) || g->low == LONG_LOW);
         if (g->fast && queue < aim / 4) (void)dt_watch_grow(it->rules, true);
     }
-    if (lossy || queue > aim / 2) g->fast = false;
+    /* (of two rounds in a row with half the aim one may have been a late wake, not both) */
+    if (lossy || (queue > aim / 2 && (g->was_slow || standing > aim / 4))) g->fast = false;
+    g->was_slow = queue > aim / 2;
     g->sum_us = g->count = 0;
+    g->least_us = DT_NEVER;
     g->limited = false;
     g->round_us = now_us;
     it->round++;
@@ -164,6 +176,7 @@ void dtu_govern_heard(dt_udp *u, struct watch *it, const struct trailer *t, uint
     if (aged < g->base[0]) g->base[0] = aged;
     uint64_t most = base_of(g) + 4 * aim_of(u, g); /* (one that was kept back is no queue) */
     g->sum_us += aged < most ? aged : most;
+    if (aged < g->least_us) g->least_us = aged;
     g->count++;
     g->heard_us = now_us;
     if (t->rounded == it->round && now_us - g->round_us >= LEAST_ROUND_US) end_round(u, it, t->heard, now_us);
@@ -383,6 +396,7 @@ static enum entry enter_call(dt_udp *u, struct waiting *it, uint64_t now) {
         return ENTERED;
     }
     it->call = made.call;
+    dtu_record_entered(u, &it->token, made.call);
     struct waiting *named = realloc(it, sizeof *it); /* (its octets aren't needed any more) */
     if (named) it = named;
     it->next = u->governing.named[it->call % NAMED];
@@ -485,10 +499,11 @@ void dtu_govern_release(dt_udp *u) {
     }
 }
 
-/* When the governor wants to be called: while something waits, each millisecond, since the pace may let it in. */
-uint64_t dtu_govern_wake(const dt_udp *u, uint64_t now) {
-    return u->governing.waiting || u->governing.object_waits ? now + 1 : DT_NEVER;
-}
+/* Whether something waits, which the pace may let in each millisecond. */
+bool dtu_govern_paces(const dt_udp *u) { return u->governing.waiting || u->governing.object_waits; }
+
+/* When the governor wants to be called. */
+uint64_t dtu_govern_wake(const dt_udp *u, uint64_t now) { return dtu_govern_paces(u) ? now + 1 : DT_NEVER; }
 
 /* --- opening and closing */
 

@@ -85,6 +85,7 @@ void dtu_loop_turn(dt_udp *u, int wait_ms) {
     dtu_write_all(u);
     if (wait_ms != 0) {
         dtu_count_publish(u);
+        dtu_record_waits(u);
         uint64_t now = dtu_clock_ms(), left = wake_of(u, now) - now;
         if (wait_ms < 0 || left < (uint64_t)wait_ms) wait_ms = left < LONGEST_WAIT_MS ? (int)left : LONGEST_WAIT_MS;
     }

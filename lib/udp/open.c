@@ -39,12 +39,12 @@ void dtu_judge(dt_udp *u) {
     if (u->core.stopped) dtu_fail(u, u->core.stopped, 0);
 }
 
-/* Begins an input of the node with this reading, in us: what it makes is late LATE_MS after the oldest reading, and the
+/* Begins an input of the node with this reading, in us: what it makes counts as made at the oldest reading, and the
  * state folder knows of it before it is done. False: the input must not be given to the node. */
 bool dtu_begin(dt_udp *u, uint64_t us) {
     uint64_t at = us / 1000;
     if (u->failed) return false;
-    if (!dtu_state_note(u, at) || !dtu_driven_note(u, at)) {
+    if (!dtu_keep(u->keeper, at)) {
         dtu_fail(u, DT_NOT_OPEN, errno);
         return false;
     }
@@ -113,9 +113,35 @@ static dt_status refuse_params(const struct dt_open_result *it, struct dt_udp_er
     return status;
 }
 
+/* Opens the folder of options.state, if there is one, and takes over how the node starts, its life, and `*now`, the
+ * reading at which it is opened. (Parameters that aren't a network's are refused by the node.) */
+static dt_status open_state(dt_udp *u, uint64_t *now, struct dt_udp_error *error) {
+    struct dt_udp_options *o = &u->options;
+    struct dt_udp_error own = {.status = DT_OK};
+    if (o->state == NULL || dtu_core_quiet_ms(o->params) == 0) return DT_OK;
+    const struct dt_udp_state_options of = {.size = sizeof of,
+                                            .node = o->node,
+                                            .params = o->params,
+                                            .folder = o->state,
+                                            .start_as = o->start_as,
+                                            .params_changed = o->flags & DT_UDP_FLAG_PARAMS_CHANGED};
+    u->state = dt_udp_state_open(&of, &own);
+    if (u->state && dt_udp_state_begin(u->state, dtu_clock_ms(), now) != DT_OK) /* (the opening may have waited) */
+        (void)dtu_refuse(&own, DT_NOT_OPEN, dt_udp_state_system_error(u->state), "%s/last can't be written", o->state);
+    if (own.status != DT_OK) {
+        if (error) *error = own;
+        return own.status;
+    }
+    u->keeper = dt_udp_state_keeper(u->state);
+    o->life = dt_udp_state_get_start(u->state)->life;
+    bool again = dt_udp_state_get_start(u->state)->start == DT_START_AGAIN;
+    o->start_as = again ? DT_UDP_START_AGAIN : DT_UDP_START_FIRST;
+    return DT_OK;
+}
+
 static dt_status open_core(dt_udp *u, struct dt_udp_error *error) {
     uint64_t now = dtu_clock_ms_of(&u->opened);
-    dt_status status = dtu_core_quiet_ms(u->options.params) ? dtu_state_open(u, &now, error) : DT_OK;
+    dt_status status = open_state(u, &now, error);
     if (status != DT_OK) return status;
     struct dt_open_result it = dtu_core_open(&u->core, &u->options, now);
     status = it.status;
@@ -163,11 +189,11 @@ dt_udp *dtu_open(const struct dt_udp_driven *driven, const struct dt_udp_options
     if (driven) {
         u->core = (struct core){
             .node = driven->node, .service = driven->service, .hooks = driven->hooks, .driven = true};
-        u->driven.keeper = driven->keeper;
+        u->keeper = driven->keeper;
         u->driven.links = driven->links;
         u->driven.link_count = driven->link_count;
     }
-    u->socket = u->epoll = u->timer = u->state.folder = u->state.lock = u->state.last = -1;
+    u->socket = u->epoll = u->timer = -1;
     u->armed_at = u->out.made_at = DT_NEVER;
     if (open_all(u, options, error) == DT_OK) return u;
     dt_udp_close(u);
@@ -182,8 +208,10 @@ void dt_udp_close(dt_udp *u) {
     if (u == NULL) return;
     (void)dtu_is_usable(u);
     dtu_count_close(u);
+    dtu_record_close(u);
     dtu_core_close(&u->core);
-    dtu_state_close(u);
+    if (u->state) (void)dt_udp_state_close(u->state);
+    dt_udp_state_free(u->state);
     dtu_events_close(u);
     dtu_objects_close(u);
     dtu_reading_close(u);
@@ -207,6 +235,12 @@ uint16_t dt_udp_local_port(dt_udp *u) {
     if (getsockname(u->socket, &it.name.any, &it.len) != 0) return 0;
     return ntohs(it.name.any.sa_family == AF_INET ? it.name.v4.sin_port : it.name.v6.sin6_port);
 }
+
+uint64_t dt_udp_silent_ms(dt_udp *u) {
+    uint64_t now = dtu_clock_ms();
+    return u->quiet_until > now ? u->quiet_until - now : 0;
+}
+uint32_t dt_udp_life(dt_udp *u) { return u->options.life; }
 
 const struct dt_udp_counts *dt_udp_get_counts(dt_udp *u) { return &u->counts; }
 dt_node *dt_udp_node(dt_udp *u) { return u->core.node; }

@@ -155,6 +155,7 @@ static void receive_driven(dt_udp *u, struct arrival *it) {
 /* Takes a datagram: one of the drivers' own, or a frame that came from its maker's address. */
 static void receive(dt_udp *u, struct arrival *it) {
     u->counts.datagrams_in++;
+    dtu_record_datagram(u, &(struct passing){.peer = it->from, .own = &it->own}, it->octets, it->len);
     if (u->core.driven) {
         receive_driven(u, it);
         return;
@@ -234,7 +235,8 @@ static int look(dt_udp *u, int wait_ms) {
     unsigned batch = u->options.flags & DT_UDP_FLAG_WITHOUT_BATCHES ? 1 : IN_BATCH;
     int flags = MSG_DONTWAIT;
     if (wait_ms > 0 && !u->stamps && wait_ms > BLIND_MS) wait_ms = BLIND_MS;
-    if (wait_ms > 0 && set_wait(u, wait_ms)) flags = MSG_WAITFORONE;
+    /* (the timeout of a read is rounded up to the ticks of the kernel: 1 ms may take 8; that of poll isn't) */
+    if (wait_ms > 0 && !dtu_govern_paces(u) && set_wait(u, wait_ms)) flags = MSG_WAITFORONE;
     else if (wait_ms > 0) (void)poll(&(struct pollfd){.fd = u->socket, .events = POLLIN}, 1, wait_ms);
     u->counts.reads++;
     int count = recvmmsg(u->socket, u->in.heads, batch, flags, NULL);

@@ -1,5 +1,6 @@
 /* The state folder of a node: what has to outlive a program, so that the next start of its node is safe.
- * docs/formats.md has the form of its files, and bindings/python/deltat/state.py keeps the same ones.
+ * docs/formats.md has the form of its files. The driver keeps one for dt_udp_open, and programs that open their nodes
+ * themselves keep one by the functions below, as deltat.State of Python does; tools/run-node keeps the same files.
  *
  * Nothing leaves the node, and nothing is passed to it, later than the moment in the file `last`, which is written
  * ahead of time: so a program that is killed at any instruction leaves a moment that is late enough. */
@@ -8,6 +9,7 @@
 #include <errno.h>
 #include <fcntl.h>
 #include <inttypes.h>
+#include <stdarg.h>
 #include <stdio.h>
 #include <stdlib.h>
 #include <string.h>
@@ -40,18 +42,19 @@ static size_t checked(char text[TEXT], int len) {
                     snprintf(text + len, TEXT - (size_t)len, "check %08" PRIx32 "\n", crc32_of(text, (size_t)len)));
 }
 
-struct kept {
+/* What the file `state` has. */
+struct lives {
     uint32_t node, life, numbers[11];
 };
 
-static size_t kept_text(const struct kept *it, char text[TEXT]) {
+static size_t lives_text(const struct lives *it, char text[TEXT]) {
     int len = snprintf(text, TEXT, "deltat state 1\nnode %" PRIu32 "\nparams", it->node);
     for (int i = 0; i < 11; i++) len += snprintf(text + len, TEXT - (size_t)len, " %" PRIu32, it->numbers[i]);
     return checked(text, len + snprintf(text + len, TEXT - (size_t)len, "\nlife %" PRIu32 "\n", it->life));
 }
 
 /* Whether the octets are a whole file `state`: exactly those that are written for what they say. */
-static bool read_kept(const char *octets, size_t len, struct kept *it) {
+static bool read_lives(const char *octets, size_t len, struct lives *it) {
     uint32_t *n = it->numbers;
     char text[TEXT];
     int found = sscanf(octets,
@@ -59,9 +62,10 @@ static bool read_kept(const char *octets, size_t len, struct kept *it) {
                        " %" SCNu32 " %" SCNu32 " %" SCNu32 " %" SCNu32 " %" SCNu32 " %" SCNu32 " %" SCNu32
                        "\nlife %" SCNu32,
                        &it->node, n, n + 1, n + 2, n + 3, n + 4, n + 5, n + 6, n + 7, n + 8, n + 9, n + 10, &it->life);
-    return found == 13 && kept_text(it, text) == len && memcmp(text, octets, len) == 0;
+    return found == 13 && lives_text(it, text) == len && memcmp(text, octets, len) == 0;
 }
 
+/* What the file `last` has. */
 struct last {
     char boot[BOOT + 1];
     int64_t clock;
@@ -130,11 +134,32 @@ static bool read_clock(int64_t *ahead) {
     return true;
 }
 
-static void read_machine(struct last *it) {
-    read_boot(it->boot);
-    if (read_clock(&it->clock)) return;
-    memcpy(it->boot, NO_BOOT, sizeof NO_BOOT);
+/* By which start of the machine and which clock the caller reads the time. */
+static void read_machine(struct last *it, const struct dt_udp_state_options *o) {
+    if (o->boot == NULL) {
+        read_boot(it->boot);
+        if (!read_clock(&it->clock)) memcpy(it->boot, NO_BOOT, sizeof NO_BOOT);
+    } else {
+        memcpy(it->boot, o->boot, BOOT);
+        it->boot[BOOT] = 0;
+        it->clock = o->clock_ahead;
+    }
 }
+
+struct dt_udp_state {
+    struct dt_udp_keeper keeper;
+    struct dt_udp_state_start start;
+    struct lives own;
+    struct last machine;
+    uint64_t ended;        /* when the last life ended, in ms */
+    int folder, lock, last; /* -1: none */
+    int system_error;
+    pid_t owner;
+    bool known;      /* something in the folder is of an earlier life */
+    bool has_state;  /* the file `state` was whole */
+    bool ends_known; /* `ended` is */
+    bool begun;
+};
 
 /* --- the folder */
 
@@ -185,20 +210,20 @@ static int has_ours(int folder) {
     return found;
 }
 
-static dt_status take_lock(struct state *s, const char *path, bool *known, struct dt_udp_error *error) {
+static dt_status take_lock(dt_udp_state *s, const char *path, struct dt_udp_error *error) {
     int found = has_ours(s->folder);
     s->lock = found < 0 ? -1 : openat(s->folder, "lock", O_RDWR | O_CREAT | O_CLOEXEC, 0600);
     if (s->lock < 0) return dtu_refuse(error, DT_NOT_OPEN, errno, "%s can't be used", path);
-    *known = found;
+    s->known = found;
     if (flock(s->lock, LOCK_EX | LOCK_NB) != 0) {
         if (errno != EWOULDBLOCK) return dtu_refuse(error, DT_NOT_OPEN, errno, "%s can't be locked", path);
-        char text[64] = "";
+        char text[64] = "", by[32] = "another process";
         ssize_t len = pread(s->lock, text, sizeof text - 1, 0);
-        return dtu_refuse(
-            error, DT_EXISTS, 0,
-            "%s is in use by process %d; one node number is one node: stop that one, or give this one a number and "
-            "a folder of its own",
-            path, len > 4 ? atoi(text + 4) : 0);
+        if (len > 4 && atoi(text + 4) > 0) snprintf(by, sizeof by, "process %d", atoi(text + 4));
+        return dtu_refuse(error, DT_EXISTS, 0,
+                          "%s is in use by %s; one node number is one node: stop that one, or give this one a number "
+                          "and a folder of its own",
+                          path, by);
     }
     char text[32];
     int len = snprintf(text, sizeof text, "pid %d\n", (int)getpid());
@@ -209,101 +234,151 @@ static dt_status take_lock(struct state *s, const char *path, bool *known, struc
 
 /* --- the start */
 
-static struct kept kept_of(const struct dt_udp_options *o) {
+static struct lives lives_of(const struct dt_udp_state_options *o) {
     const struct dt_params *p = o->params;
-    return (struct kept){
+    return (struct lives){
         .node = o->node,
         .numbers = {p->mpl, p->r, p->a, p->rto, p->probe, p->seg, p->cap, p->rcap, p->window, p->run_limit, p->start}};
 }
 
-static uint64_t quiet_of(const struct kept *it) {
+static uint64_t quiet_of(const struct lives *it) {
     return 3 * (uint64_t)it->numbers[0] + it->numbers[1] + it->numbers[2];
 }
 
-static dt_status refuse_node(const char *path, uint32_t kept, uint32_t node, struct dt_udp_error *error) {
-    return dtu_refuse(
-        error, DT_INVALID, 0,
-        "%s is of node %u, and this is node %u; each node counts its own lives: give it a folder of its own", path,
-        kept, node);
+/* What is wrong with a file, for an operator. */
+__attribute__((format(printf, 2, 3))) static void warn(dt_udp_state *s, const char *format, ...) {
+    va_list words;
+    va_start(words, format);
+    vsnprintf(s->start.warning, sizeof s->start.warning, format, words);
+    va_end(words);
 }
 
-/* Reads the file `state`. `*found`: it is whole. One that isn't is put aside. */
-static dt_status look_at_state(struct state *s, const struct dt_udp_options *o, struct kept *kept,
-                             struct dt_udp_error *error) {
-    char text[TEXT];
-    struct kept own = kept_of(o);
-    ssize_t len = read_file(s->folder, "state", text);
-    s->has_state = false;
-    if (len < 0)
-        return errno == ENOENT ? DT_OK : dtu_refuse(error, DT_NOT_OPEN, errno, "%s/state can't be read", o->state);
-    if (!read_kept(text, (size_t)len, kept)) {
-        const char *line = strstr(text, "\nnode ");
-        uint32_t node;
-        if (line && sscanf(line, "\nnode %" SCNu32 "\n", &node) == 1 && node != o->node)
-            return refuse_node(o->state, node, o->node, error);
-        if (renameat(s->folder, "state", s->folder, "state.damaged") == 0) return DT_OK;
-        return dtu_refuse(error, DT_NOT_OPEN, errno, "%s/state is damaged, and can't be put aside", o->state);
-    }
-    if (kept->node != o->node) return refuse_node(o->state, kept->node, o->node, error);
-    if (memcmp(kept->numbers, own.numbers, sizeof own.numbers) != 0 && !(o->flags & DT_UDP_FLAG_PARAMS_CHANGED)) {
-        uint64_t quiet = quiet_of(kept) > quiet_of(&own) ? quiet_of(kept) : quiet_of(&own);
-        return dtu_refuse(error, DT_INVALID, 0,
-                          "%s has other parameters, and all nodes have the same: stop all nodes, wait %" PRIu64
-                          " ms, and set DT_UDP_FLAG_PARAMS_CHANGED once",
-                          o->state, quiet);
-    }
-    s->has_state = true;
+static dt_status refuse_node(const char *path, uint32_t kept, uint32_t node, struct dt_udp_error *error) {
+    return dtu_refuse(error, DT_INVALID, 0,
+                      "%s is of node %u, and this is node %u; each node counts its own lives and has its own silence: "
+                      "give it a folder of its own",
+                      path, kept, node);
+}
+
+static dt_status refuse_params(const char *path, const struct lives *kept, const struct lives *own,
+                               struct dt_udp_error *error) {
+    static const char *const NAMES[] = {"mpl", "r",    "a",      "rto",       "probe", "seg",
+                                        "cap", "rcap", "window", "run_limit", "start"};
+    int i = 0;
+    while (kept->numbers[i] == own->numbers[i]) i++;
+    uint64_t quiet = quiet_of(kept) > quiet_of(own) ? quiet_of(kept) : quiet_of(own);
+    return dtu_refuse(error, DT_INVALID, 0,
+                      "%s: %s was %u and is %u; all nodes have equal parameters: stop all of them, wait %" PRIu64
+                      " ms, and say once that they changed (params_changed, DT_UDP_FLAG_PARAMS_CHANGED)",
+                      path, NAMES[i], kept->numbers[i], own->numbers[i], quiet);
+}
+
+/* Keeps a file that can't be read, for an operator to find. */
+static dt_status put_aside(dt_udp_state *s, const struct dt_udp_state_options *o, const char *text,
+                           struct dt_udp_error *error) {
+    const char *line = strncmp(text, "node ", 5) == 0 ? text : strstr(text, "\nnode ");
+    uint32_t node;
+    if (line && sscanf(line + (*line == '\n'), "node %" SCNu32 "\n", &node) == 1 && node != o->node)
+        return refuse_node(o->folder, node, o->node, error);
+    if (renameat(s->folder, "state", s->folder, "state.damaged") != 0)
+        return dtu_refuse(error, DT_NOT_OPEN, errno, "%s/state is damaged, and can't be put aside", o->folder);
+    warn(s, "state can't be read, and is kept as state.damaged");
     return DT_OK;
 }
 
-/* Finds out when the last life ended. */
-static void look_at_last(struct state *s, const struct dt_udp_options *o, const struct kept *kept) {
+/* Reads the file `state`. One that isn't whole is put aside. */
+static dt_status look_at_state(dt_udp_state *s, const struct dt_udp_state_options *o, struct lives *kept,
+                               struct dt_udp_error *error) {
     char text[TEXT];
-    struct last last, now;
-    struct kept own = kept_of(o);
-    s->ends_known = false;
-    if (o->start_as == DT_UDP_START_AGAIN || !s->has_state) return;
-    ssize_t len = pread(s->last, text, TEXT - 1, 0);
-    if (len <= 0) return;
-    text[len] = 0;
-    if (!read_last(text, (size_t)len, &last)) return;
-    read_machine(&now);
-    if (strcmp(last.boot, NO_BOOT) == 0 || strcmp(last.boot, now.boot) != 0 || last.clock != now.clock) return;
-    if (memcmp(kept->numbers, own.numbers, sizeof own.numbers) != 0) return;
-    s->ends_known = true;
-    s->ended = s->until = last.until;
+    ssize_t len = read_file(s->folder, "state", text);
+    if (len < 0 && errno != ENOENT)
+        return dtu_refuse(error, DT_NOT_OPEN, errno, "%s/state can't be read", o->folder);
+    if (len < 0) {
+        if (s->known) warn(s, "the file state is gone");
+        return DT_OK;
+    }
+    if (!read_lives(text, (size_t)len, kept)) return put_aside(s, o, text, error);
+    if (kept->node != o->node) return refuse_node(o->folder, kept->node, o->node, error);
+    s->has_state = true;
+    if (memcmp(kept->numbers, s->own.numbers, sizeof kept->numbers) == 0 || o->params_changed) return DT_OK;
+    return refuse_params(o->folder, kept, &s->own, error);
 }
 
-/* The next life: on the disk when this returns. */
-static dt_status count_life(struct state *s, const struct dt_udp_options *o, const struct kept *kept,
-                          struct dt_udp_error *error) {
-    struct kept own = kept_of(o);
+/* Finds out when the last life ended, and says what is known of it. */
+static const char *look_at_last(dt_udp_state *s, const struct dt_udp_state_options *o, const struct lives *kept) {
+    char text[TEXT];
+    struct last last;
+    if (o->start_as == DT_UDP_START_AGAIN) return "the whole silence was asked for";
+    if (!s->has_state) return "the file state is gone or damaged";
+    ssize_t len = pread(s->last, text, TEXT - 1, 0);
+    if (len <= 0) return "nothing is known of the last life";
+    text[len] = 0;
+    if (!read_last(text, (size_t)len, &last)) {
+        warn(s, "the file last is damaged");
+        return "the file last is damaged";
+    }
+    if (strcmp(last.boot, NO_BOOT) == 0 || strcmp(last.boot, s->machine.boot) != 0 || last.clock != s->machine.clock)
+        return "the last life was before the machine started, or by another clock";
+    if (memcmp(kept->numbers, s->own.numbers, sizeof kept->numbers) != 0) return "the parameters were others";
+    s->ends_known = true;
+    s->ended = s->keeper.until = last.until;
+    return "the file last has the end of the last life";
+}
+
+/* Counts a life: on the disk when this returns. */
+static dt_status count_life(dt_udp_state *s, uint32_t before) {
+    if (before == UINT32_MAX) return DT_FULL;
+    struct lives next = s->own;
+    next.life = before + 1;
+    char text[TEXT];
+    size_t len = lives_text(&next, text);
+    if (!replace_state(s->folder, text, len)) {
+        s->system_error = errno;
+        return DT_NOT_OPEN;
+    }
+    s->own.life = s->start.life = next.life;
+    return DT_OK;
+}
+
+/* The next life, or the one after one that is drawn if the count can't be believed. */
+static dt_status count_first(dt_udp_state *s, const struct dt_udp_state_options *o, const struct lives *kept,
+                             struct dt_udp_error *error) {
     uint32_t before = s->has_state ? kept->life : 0, drawn;
-    if (s->again && (!s->has_state || o->start_as == DT_UDP_START_AGAIN)) {
+    if (s->start.start == DT_START_AGAIN && (!s->has_state || o->start_as == DT_UDP_START_AGAIN)) {
         if (getrandom(&drawn, sizeof drawn, 0) != sizeof drawn)
             return dtu_refuse(error, DT_NOT_OPEN, errno, "no random octets");
         before = DRAWN_FROM + drawn % (DRAWN_FROM / 2);
     }
-    if (before == UINT32_MAX)
-        return dtu_refuse(error, DT_INVALID, 0, "%s: no lives are left; give the node another number and folder",
-                          o->state);
-    own.life = s->life = before + 1;
-    char text[TEXT];
-    size_t len = kept_text(&own, text);
-    return replace_state(s->folder, text, len)
-               ? DT_OK
-               : dtu_refuse(error, DT_NOT_OPEN, errno, "%s/state can't be written", o->state);
+    dt_status status = count_life(s, before);
+    if (status == DT_FULL)
+        return dtu_refuse(error, DT_INVALID, 0, "%s: node %u has no more lives; give it another number and folder",
+                          o->folder, o->node);
+    return status == DT_OK
+               ? status
+               : dtu_refuse(error, DT_NOT_OPEN, s->system_error, "%s/state can't be written", o->folder);
 }
 
-static bool promise(struct state *s, uint64_t until) {
-    struct last it = {.until = until};
+static bool promise(dt_udp_state *s, uint64_t until) {
     char text[TEXT];
-    read_machine(&it);
-    size_t len = last_text(&it, text);
-    if (pwrite(s->last, text, len, 0) != (ssize_t)len || ftruncate(s->last, (off_t)len) != 0) return false;
-    s->until = until;
-    s->has_until = true;
+    s->machine.until = until;
+    size_t len = last_text(&s->machine, text);
+    errno = EIO; /* (less than the whole was written) */
+    /* in place and without a sync: what a process wrote outlives it, and after another start of the machine the file
+     * isn't believed */
+    if (pwrite(s->last, text, len, 0) != (ssize_t)len || ftruncate(s->last, (off_t)len) != 0) {
+        s->system_error = errno;
+        return false;
+    }
+    s->keeper.until = until;
     return true;
+}
+
+/* Promises more than this input, so that the next ones need no write. */
+static bool extend(void *user, uint64_t at) {
+    dt_udp_state *s = user;
+    if (s->last < 0 || s->owner != getpid()) return errno = 0, false;
+    uint64_t ahead = quiet_of(&s->own) / 4;
+    return promise(s, at + (ahead > LEAST_AHEAD_MS ? ahead : LEAST_AHEAD_MS));
 }
 
 static void wait_ms(uint64_t ms) {
@@ -311,59 +386,113 @@ static void wait_ms(uint64_t ms) {
     while (nanosleep(&left, &left) != 0 && errno == EINTR) {}
 }
 
-/* Opens the folder of options.state, takes its lock, and decides how the node starts. Sets options.life and start_as,
- * and `*now` to when the node is opened: at the end of its last life, if that is known. */
-dt_status dtu_state_open(dt_udp *u, uint64_t *now, struct dt_udp_error *error) {
-    struct dt_udp_options *o = &u->options;
-    struct state *s = &u->state;
-    struct kept kept, own = kept_of(o);
-    bool known = false;
-    if (o->state == NULL) return DT_OK;
-    if (make_folders(o->state)) s->folder = open(o->state, O_RDONLY | O_DIRECTORY | O_CLOEXEC);
-    if (s->folder < 0) return dtu_refuse(error, DT_NOT_OPEN, errno, "%s can't be opened", o->state);
-    dt_status status = take_lock(s, o->state, &known, error);
+static dt_status open_folder(dt_udp_state *s, const struct dt_udp_state_options *o, struct dt_udp_error *error) {
+    struct lives kept;
+    if (make_folders(o->folder)) s->folder = open(o->folder, O_RDONLY | O_DIRECTORY | O_CLOEXEC);
+    if (s->folder < 0) return dtu_refuse(error, DT_NOT_OPEN, errno, "%s can't be opened", o->folder);
+    dt_status status = take_lock(s, o->folder, error);
     if (status == DT_OK) status = look_at_state(s, o, &kept, error);
     if (status != DT_OK) return status;
-    s->again = s->has_state || known;
+    s->start.start = s->has_state || s->known ? DT_START_AGAIN : DT_START_FIRST;
     s->last = openat(s->folder, "last", O_RDWR | O_CREAT | O_CLOEXEC, 0600);
-    if (s->last < 0) return dtu_refuse(error, DT_NOT_OPEN, errno, "%s/last can't be opened", o->state);
-    look_at_last(s, o, &kept);
-    s->has_until = s->ends_known;
-    if (s->has_state && quiet_of(&kept) > quiet_of(&own)) wait_ms(quiet_of(&kept) - quiet_of(&own));
+    if (s->last < 0) return dtu_refuse(error, DT_NOT_OPEN, errno, "%s/last can't be opened", o->folder);
+    s->start.why = s->start.start == DT_START_FIRST ? "the folder is new" : look_at_last(s, o, &kept);
+    if (s->has_state && quiet_of(&kept) > quiet_of(&s->own)) wait_ms(quiet_of(&kept) - quiet_of(&s->own));
+    /* what isn't believed now must not be believed by the next start, if this one is killed */
     if (!s->ends_known && ftruncate(s->last, 0) != 0)
-        return dtu_refuse(error, DT_NOT_OPEN, errno, "%s/last can't be written", o->state);
-    if ((status = count_life(s, o, &kept, error)) != DT_OK) return status;
-    o->life = s->life;
-    o->start_as = s->again ? DT_UDP_START_AGAIN : DT_UDP_START_FIRST;
-    *now = dtu_clock_ms(); /* (the wait may have taken a while) */
-    if (s->ends_known && s->ended < *now) *now = s->ended;
-    if (!s->ends_known && !promise(s, *now))
-        return dtu_refuse(error, DT_NOT_OPEN, errno, "%s/last can't be written", o->state);
-    uint64_t quiet = quiet_of(&own);
-    s->quiet_until = s->again ? *now + quiet : 0;
-    s->ahead = quiet / 4 > LEAST_AHEAD_MS ? quiet / 4 : LEAST_AHEAD_MS;
+        return dtu_refuse(error, DT_NOT_OPEN, errno, "%s/last can't be written", o->folder);
+    return count_first(s, o, &kept, error);
+}
+
+/* --- what programs call */
+
+static dt_status check(const struct dt_udp_state_options *o, struct dt_udp_error *error) {
+    if (o->size != sizeof *o)
+        return dtu_refuse(error, DT_INVALID, 0, "size is %u; set it to sizeof(struct dt_udp_state_options)", o->size);
+    if (o->folder == NULL || o->params == NULL || dtu_core_quiet_ms(o->params) == 0)
+        return dtu_refuse(error, DT_INVALID, 0, "there is no folder, or the parameters aren't those of a network");
+    if (o->start_as != DT_UDP_START_BY_STATE && o->start_as != DT_UDP_START_AGAIN)
+        return dtu_refuse(error, DT_INVALID, 0, "start_as is %u; use DT_UDP_START_BY_STATE or DT_UDP_START_AGAIN",
+                          o->start_as);
+    if (o->boot && (strlen(o->boot) != BOOT || strspn(o->boot, "0123456789abcdef-") != BOOT))
+        return dtu_refuse(error, DT_INVALID, 0, "boot isn't a name of 36 digits, letters a to f and hyphens");
     return DT_OK;
 }
 
-/* Notes that at this moment a datagram may leave the node, or is passed in. False: it can't be written, and the input
- * must not be given to the node. */
-bool dtu_state_note(dt_udp *u, uint64_t at) {
-    struct state *s = &u->state;
-    if (s->last < 0 || at < s->quiet_until) return true;
-    if ((!s->has_until || at > s->until) && !promise(s, at + s->ahead)) return false;
-    if (at > s->noted) s->noted = at;
+dt_udp_state *dt_udp_state_open(const struct dt_udp_state_options *o, struct dt_udp_error *error) {
+    if (error) memset(error, 0, sizeof *error);
+    if (check(o, error) != DT_OK) return NULL;
+    dt_udp_state *s = calloc(1, sizeof *s);
+    if (s == NULL) return (void)dtu_refuse(error, DT_NO_MEMORY, 0, "out of memory"), NULL;
+    s->keeper.extend = extend;
+    s->keeper.user = s;
+    s->folder = s->lock = s->last = -1;
+    s->owner = getpid();
+    s->own = lives_of(o);
+    read_machine(&s->machine, o);
+    if (open_folder(s, o, error) == DT_OK) return s;
+    dt_udp_state_free(s);
+    return NULL;
+}
+
+dt_status dt_udp_state_begin(dt_udp_state *s, uint64_t now, uint64_t *at) {
+    if (s->last < 0 || s->owner != getpid()) return DT_NOT_OPEN;
+    if (s->begun) return DT_EXISTS;
+    s->begun = true;
+    *at = s->ends_known && s->ended < now ? s->ended : now;
+    /* so a start that is killed in its silence doesn't have the next one begin it anew */
+    if (!s->ends_known && !promise(s, *at)) return DT_NOT_OPEN;
+    s->keeper.since = s->start.start == DT_START_AGAIN ? *at + quiet_of(&s->own) : 0;
+    return DT_OK;
+}
+
+/* Has a keeper told of an input before it is done. False: it must not be done. */
+bool dtu_keep(struct dt_udp_keeper *it, uint64_t at) {
+    if (it == NULL || at < it->since) return true;
+    errno = 0; /* (a folder that can't be written may be the program's to explain) */
+    if (at > it->until && !it->extend(it->user, at)) return false;
+    if (at > it->noted) it->noted = at;
     return true;
 }
 
-/* With the node closed: writes when the last datagram left or was passed in, and frees the lock. A forked child writes
- * nothing, and the lock stays its parent's. */
-void dtu_state_close(dt_udp *u) {
-    struct state *s = &u->state;
-    if (s->last >= 0 && s->noted > 0 && !u->is_copy)
-        (void)promise(s, s->noted); /* (else what was promised ahead stands) */
-    if (s->last >= 0) close(s->last);
-    if (s->lock >= 0) close(s->lock);
-    if (s->folder >= 0) close(s->folder);
+dt_status dt_udp_state_note(dt_udp_state *s, uint64_t at) {
+    return s->last >= 0 && dtu_keep(&s->keeper, at) ? DT_OK : DT_NOT_OPEN;
+}
+
+dt_status dt_udp_state_next_life(dt_udp_state *s, uint32_t *life) {
+    if (s->last < 0 || s->owner != getpid()) return DT_NOT_OPEN;
+    dt_status status = count_life(s, s->own.life);
+    *life = s->own.life;
+    return status;
+}
+
+struct dt_udp_keeper *dt_udp_state_keeper(dt_udp_state *s) { return &s->keeper; }
+const struct dt_udp_state_start *dt_udp_state_get_start(dt_udp_state *s) { return &s->start; }
+int dt_udp_state_system_error(dt_udp_state *s) { return s->system_error; }
+
+static void close_file(int *file) {
+    if (*file >= 0) close(*file);
+    *file = -1;
+}
+
+static void close_files(dt_udp_state *s) {
+    s->keeper.since = s->keeper.until = 0; /* (each input is asked for, and refused) */
+    close_file(&s->last);
+    close_file(&s->lock);
+    close_file(&s->folder);
+}
+
+dt_status dt_udp_state_close(dt_udp_state *s) {
+    bool writes = s->last >= 0 && s->keeper.noted > 0 && s->owner == getpid();
+    dt_status status = writes && !promise(s, s->keeper.noted) ? DT_NOT_OPEN : DT_OK;
+    close_files(s);
+    return status; /* (if it wasn't written, what was promised ahead holds) */
+}
+
+void dt_udp_state_free(dt_udp_state *s) {
+    if (s == NULL) return;
+    close_files(s);
+    free(s);
 }
 
 uint32_t dt_udp_fresh_number(void) {
@@ -373,9 +502,3 @@ uint32_t dt_udp_fresh_number(void) {
     while (drawn < FIRST_FRESH);
     return drawn;
 }
-
-uint64_t dt_udp_silent_ms(dt_udp *u) {
-    uint64_t now = dtu_clock_ms();
-    return u->quiet_until > now ? u->quiet_until - now : 0;
-}
-uint32_t dt_udp_life(dt_udp *u) { return u->options.life; }

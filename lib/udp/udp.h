@@ -16,9 +16,10 @@
  *   events.c    what dt_udp_next_event returns
  *   calls.c     what a program asks of the node
  *   objects.c   objects, in chunks over several flows
- *   driven.c    nodes that the program opened: neighbours, hooks, the keeper
+ *   driven.c    nodes that the program opened: neighbours, hooks
  *   batch.c     many events at once
  *   counters_file.c  counters in a mapped file, for whoever watches the node
+ *   recording.c what passes, in a file for Wireshark and tools/trace_token.py
  */
 #ifndef DELTAT_UDP_INTERNAL_H
 #define DELTAT_UDP_INTERNAL_H
@@ -29,7 +30,7 @@
 #include <sys/types.h>
 
 enum {
-    LATE_MS = 20,        /* a datagram that was made longer ago isn't sent: its link's charge has this */
+    LATE_MS = 20,        /* a datagram that was made longer ago isn't sent without a watch: its link's charge has this */
     IN_BATCH = 32,       /* datagrams that one system call reads, each of up to 64 segments */
     OUT_BATCH = 64,      /* datagrams that are sent at once */
     MAX_SEGMENTS = 64,   /* datagrams that one UDP_SEGMENT call sends: the kernel's limit */
@@ -109,7 +110,7 @@ struct waiting_flows {
 struct governor {
     uint64_t base[2]; /* the least delay of this span and of the last one; DT_NEVER: none was measured */
     uint64_t turned_us, round_us, heard_us, credit_us;
-    uint64_t sum_us, count; /* delays of this round */
+    uint64_t sum_us, count, least_us; /* delays of this round, and the least of them */
     uint64_t target_us;     /* the delay in queues that is let pass: the aim, or more while others fill them */
     int64_t credit;         /* octets that the pace lets go */
     uint16_t sent_then, sent_before, lost_before;
@@ -118,6 +119,7 @@ struct governor {
     uint8_t beside; /* rounds in which others filled the queue */
     uint8_t low;    /* rounds in a row with next to no queue though the window limited, up to LONG_LOW */
     bool fast, limited;
+    bool was_slow; /* the last round's delay was above half the aim */
 };
 
 /* What is known of a peer's clocks and openings, and what is under way to it. */
@@ -275,7 +277,6 @@ struct core {
 
 /* What there is of a node that the program opened. */
 struct driven {
-    struct dt_udp_keeper *keeper;
     struct peer **there;   /* neighbours by address: `size` buckets, a power of 2; null: none */
     size_t count, size;
     struct peer *hop;      /* the neighbour on a link that was looked for last */
@@ -359,17 +360,6 @@ struct objects {
     uint8_t room[65536];             /* a message that is sent */
 };
 
-/* The state folder; its descriptors are -1 without one. */
-struct state {
-    int folder, lock, last;
-    bool again;      /* the node may have had an earlier life */
-    bool has_state;  /* the file `state` was whole */
-    bool ends_known; /* `ended`: when the last life ended, in ms */
-    bool has_until;  /* `until`: what the file `last` promises */
-    uint64_t ended, until, noted, quiet_until, ahead;
-    uint32_t life;
-};
-
 struct dt_udp {
     struct dt_udp_options options; /* its pointers are null after the opening, but for params */
     struct dt_params params;       /* what options.params points to */
@@ -382,7 +372,8 @@ struct dt_udp {
     struct ports ports;
     struct strangers strangers;
     struct held held;
-    struct state state;
+    dt_udp_state *state;           /* null: there is no state folder */
+    struct dt_udp_keeper *keeper;  /* that of the state folder, or the program's; null: there is none */
     struct objects objects;
     struct watching watching;
     struct governing governing;
@@ -393,6 +384,7 @@ struct dt_udp {
     struct incoming in;
     struct outgoing out;
     struct counting *counting; /* null: no counters file */
+    struct recording *recording; /* null: nothing is recorded */
     uint8_t *event_room; /* what a service's last event points to */
     int socket, epoll, timer, family;
     int read_timeout_ms;  /* SO_RCVTIMEO as it was set last; 0: it isn't */
@@ -485,9 +477,7 @@ bool dtu_is_control(dt_udp *u, struct arrival *arrival);
 void dtu_stranger(dt_udp *u, struct arrival *arrival);
 
 /* --- state.c */
-dt_status dtu_state_open(dt_udp *u, uint64_t *now, struct dt_udp_error *error);
-bool dtu_state_note(dt_udp *u, uint64_t at);
-void dtu_state_close(dt_udp *u);
+bool dtu_keep(struct dt_udp_keeper *keeper, uint64_t at);
 
 /* --- objects.c */
 void dtu_objects_close(dt_udp *u);
@@ -561,6 +551,7 @@ struct dt_reply_result dtu_govern_keep_reply(dt_udp *u, struct peer *peer, const
 void dtu_govern_ended(dt_udp *u, struct dt_udp_event *event);
 bool dtu_govern_event(dt_udp *u);
 void dtu_govern_release(dt_udp *u);
+bool dtu_govern_paces(const dt_udp *u);
 uint64_t dtu_govern_wake(const dt_udp *u, uint64_t now);
 
 /* --- reading.c */
@@ -582,7 +573,6 @@ void dtu_write_held(dt_udp *u, const struct peer *peer);
 void dtu_driven_close(dt_udp *u);
 void dtu_driven_begin(dt_udp *u);
 void dtu_driven_send_made(dt_udp *u);
-bool dtu_driven_note(dt_udp *u, uint64_t at);
 void dtu_driven_receive(dt_udp *u, struct peer *peer, struct arrival *arrival);
 void dtu_driven_take(dt_udp *u, struct peer *peer, const struct arrival *arrival);
 struct peer *dtu_driven_neighbour(const dt_udp *u, const struct address *at);
@@ -616,5 +606,32 @@ void dtu_count_alarm(dt_udp *u, uint8_t cause);
 void dtu_count_age(dt_udp *u, uint64_t us);
 void dtu_count_out(dt_udp *u, const struct iovec *frame);
 void dtu_count_in(dt_udp *u, const struct arrival *a, dt_status status);
+
+/* --- recording.c: without a recording each does nothing */
+
+/* A datagram that passes, from or to a peer's address. */
+struct passing {
+    const struct address *peer;
+    const struct own_address *own; /* or null */
+    bool out;
+};
+
+/* A call that the program made. */
+struct called {
+    uint64_t call;
+    size_t len;
+    uint32_t timeout_ms;
+    dt_status status;
+    bool waits; /* in the driver */
+};
+
+void dtu_record_datagram(dt_udp *u, const struct passing *it, const uint8_t *octets, size_t len);
+void dtu_record_call(dt_udp *u, const struct dt_flow *flow, const struct called *it);
+void dtu_record_entered(dt_udp *u, const struct dt_token *token, uint64_t as);
+void dtu_record_reply(dt_udp *u, const struct dt_token *token, size_t len, dt_status status);
+void dtu_record_forgotten(dt_udp *u, const struct dt_token *token);
+void dtu_record_event(dt_udp *u, const struct dt_udp_event *it);
+void dtu_record_waits(dt_udp *u);
+void dtu_record_close(dt_udp *u);
 
 #endif

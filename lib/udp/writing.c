@@ -9,6 +9,9 @@
 enum {
     FRAME_ROOM = DT_MAX_DATAGRAM + TRAILER,
     PACKET_HEAD = 14, /* octets of a packet before those of its flow (docs/formats.md) */
+    MADE_BY = 8,      /* where a frame says which node made it: it, its target, the packet's kind and flow are before */
+    NUMBER = 22,      /* the packet's number */
+    ACKNOWLEDGEMENT = 2, /* its kind */
     MAX_JOINED = 65000 /* octets that one UDP_SEGMENT call sends: below what fits into one datagram of IPv4 and IPv6 */
 };
 
@@ -72,6 +75,17 @@ static void add(dt_udp *u, struct peer *peer, struct iovec *part) {
         .msg_name = &peer->at.name, .msg_namelen = peer->at.len, .msg_iov = part, .msg_iovlen = 1};
 }
 
+/* Whether a frame is an acknowledgement of ours that says all that one before it says: of the same flow, and with no lesser
+ * number. (docs/formats.md has the places. The lives may differ, and the later number and window hold.) */
+static bool supersedes(const dt_udp *u, const struct iovec *frame, const struct iovec *before) {
+    const uint8_t *new = frame->iov_base, *old = before->iov_base;
+    size_t len = HEADER + PACKET_HEAD;
+    if (frame->iov_len != len || before->iov_len != len + (u->watching.on ? TRAILER_LEN : 0)) return false;
+    if (new[HEADER] != ACKNOWLEDGEMENT || dtu_get_number(new + MADE_BY, 4) != u->options.node) return false;
+    uint32_t more = (uint32_t)dtu_get_number(new + NUMBER, 4) - (uint32_t)dtu_get_number(old + NUMBER, 4);
+    return memcmp(new + MADE_BY, old + MADE_BY, NUMBER - MADE_BY) == 0 && more <= INT32_MAX;
+}
+
 /* An acknowledgement often waits before longer frames to the same peer. Behind them it leaves with them by one call,
  * and arrives with them too. Frames with octets keep their order: a receiver without a shelf takes them in by their
  * order only, so of two that changed places one would have to be sent again. */
@@ -115,6 +129,10 @@ static bool gather(dt_udp *u, unsigned *parts) {
             u->counts.not_sent++;
             continue;
         }
+        if (*parts > 0 && u->out.peers[u->out.count - 1] == peer && supersedes(u, part, part - 1)) {
+            memcpy(part[-1].iov_base, part->iov_base, part->iov_len); /* (before the trailer of that one) */
+            continue;
+        }
         (*parts)++;
         dtu_count_out(u, part);
         dtu_watch_stamp(u, peer, part);
@@ -125,12 +143,15 @@ static bool gather(dt_udp *u, unsigned *parts) {
 
 /* --- sending */
 
-/* Whether a frame that was made by this reading mustn't leave any more. */
-static bool is_late(uint64_t made_at) { return dtu_clock_ms() - made_at > LATE_MS; }
+/* Whether a frame that was made by this reading mustn't leave any more. With the watch its trailer says how old it is, so
+ * it leaves as long as it may have life left. */
+static bool is_late(const dt_udp *u, uint64_t made_at) {
+    return dtu_clock_ms() - made_at > (u->watching.on ? u->options.params->mpl : LATE_MS);
+}
 
 enum { FLAGS = MSG_DONTWAIT | MSG_NOSIGNAL };
 
-/* Waits until the socket takes more, at most until what waits is late. */
+/* Waits until the socket takes more, for LATE_MS after what waits was made at most. */
 static bool waits_for_room(dt_udp *u) {
     uint64_t since = dtu_clock_ms() - u->out.made_at;
     if (since >= LATE_MS) return false;
@@ -139,16 +160,23 @@ static bool waits_for_room(dt_udp *u) {
 
 /* Keeps the first frame of those for a peer that hasn't answered yet: it may ask for a proof first. */
 static void hold(dt_udp *u, const struct peer *peer, const struct iovec *frame) {
-    if (u->held.len && u->held.to == peer->node && !is_late(u->held.made_at)) return;
+    if (u->held.len && u->held.to == peer->node && !is_late(u, u->held.made_at)) return;
     u->held.to = peer->node;
     u->held.len = frame->iov_len;
     u->held.made_at = u->out.made_at;
     memcpy(u->held.octets, frame->iov_base, frame->iov_len);
 }
 
+static void record(dt_udp *u, const struct peer *peer, const struct iovec *frame) {
+    if (u->recording == NULL) return;
+    struct passing it = {.peer = &peer->at, .own = &peer->own, .out = true};
+    dtu_record_datagram(u, &it, frame->iov_base, frame->iov_len);
+}
+
 static void sent(dt_udp *u, unsigned i) {
     struct peer *peer = u->out.peers[i];
     const struct msghdr *head = &u->out.heads[i].msg_hdr;
+    for (size_t k = 0; k < head->msg_iovlen; k++) record(u, peer, head->msg_iov + k);
     u->counts.datagrams_out += head->msg_iovlen;
     peer->sent_at = u->out.made_at;
     if (!peer->answered && head->msg_iov->iov_len <= sizeof u->held.octets) hold(u, peer, head->msg_iov);
@@ -180,6 +208,7 @@ static void send_singly(dt_udp *u, unsigned i, int why) {
         u->counts.writes++;
         if (sendmsg(u->socket, head, FLAGS) >= 0) {
             u->counts.datagrams_out++;
+            record(u, u->out.peers[i], head->msg_iov);
             continue;
         }
         all = false;
@@ -224,25 +253,29 @@ void dtu_write_control(dt_udp *u, const struct arrival *to, const uint8_t *octet
     if (head.msg_controllen == 0) head.msg_control = NULL;
     u->counts.writes++;
     if (sendmsg(u->socket, &head, FLAGS) < 0) u->counts.not_sent++;
+    else dtu_record_datagram(u, &(struct passing){.peer = &address, .own = &to->own, .out = true}, octets, len);
 }
 
 /* Sends the last frame to a peer once more, if it isn't late yet: a repeat, which does no harm. */
 void dtu_write_held(dt_udp *u, const struct peer *peer) {
     struct held *it = &u->held;
-    if (it->len == 0 || it->to != peer->node || is_late(it->made_at)) return;
+    if (it->len == 0 || it->to != peer->node || is_late(u, it->made_at)) return;
     u->counts.writes++;
-    if (sendto(u->socket, it->octets, it->len, FLAGS, &peer->at.name.any, peer->at.len) >= 0) u->counts.datagrams_out++;
+    if (sendto(u->socket, it->octets, it->len, FLAGS, &peer->at.name.any, peer->at.len) >= 0) {
+        u->counts.datagrams_out++;
+        record(u, peer, &(struct iovec){it->octets, it->len});
+    }
     it->len = 0;
 }
 
-/* Sends the frames that wait. What is late counts as lost: its life says nothing of the time that it waited here. */
+/* Sends the frames that wait. What is late counts as lost: without the watch its life says nothing of the time that it waited here. */
 static void write_frames(dt_udp *u) {
     if (u->out.made_at == DT_NEVER) return;
     dtu_driven_drained(u);
     unsigned parts;
     for (bool more = true; more;) {
         more = gather(u, &parts);
-        if (parts > 0 && is_late(u->out.made_at)) u->counts.not_sent += parts;
+        if (parts > 0 && is_late(u, u->out.made_at)) u->counts.not_sent += parts;
         else send_heads(u);
         dtu_driven_written(u);
     }

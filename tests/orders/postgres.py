@@ -94,7 +94,7 @@ def cases() -> list[tuple[str, bool, str]]:
         ("each fate has its result", fates == [orders.Done(b"did " + it) for it in bodies], str(fates)),
         (
             "a client that lost its store is told of it",
-            again == [orders.Done(b"did d")] or again == [orders.Unknown()],
+            again == [orders.Done(b"did d")] or again == [orders.Unknown(orders.Why.SET_BACK)],
             str(again),
         ),
     ]

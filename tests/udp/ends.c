@@ -7,8 +7,8 @@
  *   ends say LOOP KEY=VALUE..         sends `count` messages, one after another's echo, and drains; `echoed N wrong N`
  *
  * LOOP is next (dt_udp_next_event waits), poll, epoll, or glib (compiled with -DWITH_GLIB). Keys: host port node life
- * again peer peer_host peer_port learns state counters count octets many flags seg r timeout pause (ms after each call) log (a
- * file to which the number of each request that is served is appended). */
+ * again peer peer_host peer_port learns state counters record (a file) record_octets count octets many flags seg r
+ * timeout pause (ms after each call) log (a file to which the number of each request that is served is appended). */
 #include "deltat_udp.h"
 #include <errno.h>
 #include <inttypes.h>
@@ -293,6 +293,9 @@ static dt_udp *opened(struct end *it) {
     struct dt_udp_error error;
     dt_udp *udp = dt_udp_open(&options, &error);
     if (udp == NULL) die(error.text);
+    uint32_t most = number(it, "record_octets", 1 << 26);
+    if (word(it, "record", NULL) && dt_udp_record(udp, word(it, "record", ""), most, &error) != DT_OK)
+        die(error.text);
     if (it->peer && dt_udp_set_peer(udp, it->peer, word(it, "peer_host", "127.0.0.1"), word(it, "peer_port", "4002"),
                                 &error) != DT_OK)
         die(error.text);

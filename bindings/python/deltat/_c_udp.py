@@ -195,6 +195,32 @@ class Keeper(ctypes.Structure):
     ]
 
 
+class StateOptions(ctypes.Structure):
+    """Zero the struct, and set `size` and what you need."""
+
+    _fields_ = [
+        ("size", ctypes.c_uint32),
+        ("node", ctypes.c_uint32),
+        ("params", ctypes.POINTER(_c.Params)),
+        ("folder", ctypes.c_char_p),
+        ("boot", ctypes.c_char_p),
+        ("clock_ahead", ctypes.c_int64),
+        ("start_as", ctypes.c_uint8),
+        ("params_changed", ctypes.c_bool),
+    ]
+
+
+class StateStart(ctypes.Structure):
+    """How the node starts, as its folder says."""
+
+    _fields_ = [
+        ("why", ctypes.c_char_p),
+        ("warning", ctypes.c_char * 64),
+        ("life", ctypes.c_uint32),
+        ("start", ctypes.c_uint8),
+    ]
+
+
 class Datagram(ctypes.Structure):
     """A datagram that arrived."""
 
@@ -355,8 +381,19 @@ FUNCTIONS: dict[str, tuple[Any, list[Any]]] = {
     "dt_udp_silent_ms": (ctypes.c_uint64, [ctypes.c_void_p]),
     "dt_udp_life": (ctypes.c_uint32, [ctypes.c_void_p]),
     "dt_udp_get_counts": (ctypes.POINTER(Counts), [ctypes.c_void_p]),
+    "dt_udp_record": (ctypes.c_uint8, [ctypes.c_void_p, ctypes.c_char_p, ctypes.c_uint64, ctypes.POINTER(Error)]),
+    "dt_udp_recording": (ctypes.c_uint8, [ctypes.c_void_p]),
     "dt_udp_node": (ctypes.c_void_p, [ctypes.c_void_p]),
     "dt_udp_service": (ctypes.c_void_p, [ctypes.c_void_p]),
+    "dt_udp_state_open": (ctypes.c_void_p, [ctypes.POINTER(StateOptions), ctypes.POINTER(Error)]),
+    "dt_udp_state_get_start": (ctypes.POINTER(StateStart), [ctypes.c_void_p]),
+    "dt_udp_state_begin": (ctypes.c_uint8, [ctypes.c_void_p, ctypes.c_uint64, ctypes.POINTER(ctypes.c_uint64)]),
+    "dt_udp_state_keeper": (ctypes.POINTER(Keeper), [ctypes.c_void_p]),
+    "dt_udp_state_note": (ctypes.c_uint8, [ctypes.c_void_p, ctypes.c_uint64]),
+    "dt_udp_state_next_life": (ctypes.c_uint8, [ctypes.c_void_p, ctypes.POINTER(ctypes.c_uint32)]),
+    "dt_udp_state_system_error": (ctypes.c_int, [ctypes.c_void_p]),
+    "dt_udp_state_close": (ctypes.c_uint8, [ctypes.c_void_p]),
+    "dt_udp_state_free": (None, [ctypes.c_void_p]),
     "dt_udp_drive": (ctypes.c_void_p, [ctypes.POINTER(Driven), ctypes.POINTER(Options), ctypes.POINTER(Error)]),
     "dt_udp_set_neighbour": (
         ctypes.c_uint8,

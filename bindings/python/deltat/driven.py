@@ -20,7 +20,8 @@ from ._c import Status
 from ._library import drivers
 from .errors import InvalidArgument, OutOfMemory, StateError, Stopped, UdpError
 from .hooked import Hooked, is_hooked
-from .values import Flow, flow_to_c, params_of
+from .state import State
+from .values import Flow, flow_to_c, in_range, params_of
 from .watch import Alarm
 
 if TYPE_CHECKING:
@@ -260,6 +261,17 @@ class Driver:
         status: int = self._short.dt_udp_forget(self._handle or self._open(), self._token)
         return status
 
+    def record(self, path: str | os.PathLike[str] | None, max_octets: int) -> None:
+        error, name = _c_udp.Error(), None if path is None else os.fsencode(path)
+        status = self._waits.dt_udp_record(self._open(), name, in_range(max_octets, 64, "max_octets"), error)
+        if status == Status.INVALID:
+            raise OSError(error.system_error, os.strerror(error.system_error), os.fspath(path or ""))
+        self.check(status)
+
+    @property
+    def is_recording(self) -> bool:
+        return bool(self._handle) and self._short.dt_udp_recording(self._handle) == Status.OK
+
     @property
     def not_sent(self) -> int:
         return int(self._counts.not_sent + self._counts.too_big) if self._handle else self._ended[0]
@@ -304,6 +316,11 @@ class Driven(Driver):
     def _raise(self, status: int) -> None:
         self._node._raise(status)
 
+    def check(self, status: int) -> None:
+        if status and isinstance(self._node._state, State):
+            self._node._state.explain()
+        super().check(status)
+
     def set_neighbour(self, number: int, link: int, address: tuple[str, int]) -> None:
         """Sets the address of a node at the other end of a link. Raises InvalidArgument or OutOfMemory."""
         error = _c_udp.Error()
@@ -321,22 +338,22 @@ def _hooked(node: AnyNode, given: _c_udp.Driven, failures: list[BaseException]) 
 def _kept(node: AnyNode, given: _c_udp.Driven, failures: list[BaseException]) -> object:
     """Has the node's state told of each input before it is done."""
     state = node._state
+    if isinstance(state, State):
+        given.keeper = ctypes.pointer(state._keeper)
+        return state
     if state is None:
         return None
-    keeper = getattr(state, "_keeper", None)
-    extends = state.note_packet if keeper is None else state._extend
-    if keeper is None:
-        keeper = _c_udp.Keeper()
+    note_packet = state.note_packet  # (of a program's own class: it is asked of each input)
 
     def extend(_: object, at: int) -> bool:
         try:
-            extends(at)
+            note_packet(at)
         except BaseException as why:
             failures.append(why)
             return False
         return True
 
-    keeper.extend = _c_udp.KeeperExtend(extend)
+    keeper = _c_udp.Keeper(extend=_c_udp.KeeperExtend(extend))
     given.keeper = ctypes.pointer(keeper)
     return keeper
 

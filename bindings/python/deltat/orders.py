@@ -14,7 +14,7 @@
     with orders.Orders(orders.over(calls, deltat.Flow(1, 10, 2, 20)), orders.Log("shop.orders")) as given:
         match given.give(b"alice"):
             case orders.Done(result): ...
-            case orders.Unknown(): ...       # executed once or not at all, and nothing of it comes any more
+            case orders.Unknown(why): ...    # executed once or not at all, and nothing of it comes any more
 
 The library says what to store and what to send; this module stores and sends. The functions of the library are proved;
 this module is tested only. Times are in seconds. A store is used by one process at a time; `Orders` and `Served` by one
@@ -23,7 +23,9 @@ thread."""
 from __future__ import annotations
 
 import asyncio
+import contextlib
 import ctypes
+import enum
 import fcntl
 import logging
 import os
@@ -31,8 +33,10 @@ import random
 import secrets
 import sqlite3
 import struct
+import threading
 import time
 import zlib
+from collections import deque
 from collections.abc import Awaitable, Callable, Iterable, Iterator, Sequence
 from concurrent.futures import ThreadPoolExecutor
 from dataclasses import dataclass, field
@@ -40,6 +44,7 @@ from pathlib import Path
 from types import TracebackType
 from typing import TYPE_CHECKING, Any, Protocol
 
+from . import clock
 from ._c import Order as _Said
 from ._c import OrdersLane, OrdersLook, OrdersServer, Status
 from ._library import library
@@ -47,11 +52,12 @@ from .errors import Declined, DeltatError, InvalidArgument, Stopped, Unsure
 from .values import Flow
 
 if TYPE_CHECKING:
-    from .service import AsyncCalls, Calls
+    from .service import AsyncCalls, Calls, Request
 
 __all__ = [
     "AT_WORK",
     "AsyncOrders",
+    "AtWork",
     "Database",
     "Done",
     "Fate",
@@ -68,6 +74,7 @@ __all__ = [
     "StillOpen",
     "Store",
     "Unknown",
+    "Why",
     "over",
     "over_async",
 ]
@@ -76,6 +83,11 @@ _log = logging.getLogger("deltat")
 _REQUEST, _ANSWER, _LANE, _CLIENT = 112, 56, 104, 80
 MOST_BODY = 65_536 - 8 - _REQUEST
 """The longest body of an order, in octets, over calls."""
+SPARE_RECORDS = 4_100
+"""How many records a client's store has at most, beside twice those that count. So an order costs the same, however
+many there were before. Those that count are its lanes, the fates that weren't taken, and the last `keep` that were."""
+MOST_AT_ONCE = 256
+"""How many requests a server handles in one transaction at most."""
 
 
 @dataclass(frozen=True)
@@ -90,10 +102,19 @@ class Never:
     """The order was cancelled: it wasn't executed and never is."""
 
 
+class Why(enum.Enum):
+    """Why an order is `Unknown`."""
+
+    FORGOTTEN = "the server forgot a row that was written after the commit that the order carries"
+    SET_BACK = "its number was used by another order: the client's store was set back, or two clients have one number"
+
+
 @dataclass(frozen=True)
 class Unknown:
     """The order was executed once or not at all, and no call of it is executed any more: what the service's data says
-    now is the last word. The server forgot the row that it would have needed, or the client's store was set back."""
+    now is the last word."""
+
+    why: Why
 
 
 Fate = Done | Never | Unknown
@@ -380,7 +401,7 @@ class _State:
         (number,) = struct.unpack_from(">Q", lane)
         self.lanes[number], self.client = lane, client
         order = Order(self.bodies.pop(uid, b""), uid, lane=number)
-        self.fates[uid] = _Kept(order, _fate(said, body[at:]), answer)
+        self.fates[uid] = _Kept(order, _fate(said, answer, body[at:]), answer)
         self.last_uid = max(self.last_uid, uid)
 
     def records(self, keep: int) -> list[bytes]:
@@ -404,13 +425,24 @@ class _State:
         return made
 
 
+def _noted_uid(record: bytes) -> int:
+    """The number of the order that a record notes: 0 if it notes none."""
+    (uid,) = struct.unpack_from(">Q", record, 25) if record[0] == _ORDER else (0,)
+    return int(uid)
+
+
 def _with_order(lane: bytes, uid: int) -> bytes:
     """The octets of a lane, with an order of this name: the body behind it is that order's."""
     return lane[:16] + struct.pack(">QQ", 1, uid) + lane[32:]
 
 
-def _fate(said: int, result: bytes) -> Fate:
-    return Done(result) if said == _Said.DONE else Never() if said == _Said.NEVER else Unknown()
+def _fate(said: int, answer: bytes, result: bytes) -> Fate:
+    """The fate that an answer made."""
+    if said == _Said.DONE:
+        return Done(result)
+    if said == _Said.NEVER:
+        return Never()
+    return Unknown(Why.FORGOTTEN if library.dt_orders_word(answer, len(answer)) == _Said.OLD else Why.SET_BACK)
 
 
 def _said(fate: Fate) -> int:
@@ -426,9 +458,10 @@ def _fate_record(uid: int, it: _Kept, lane: bytes, client: bytes) -> bytes:
 class _Book:
     """The client's half over a store: what to write and what to send. It sends nothing itself.
 
-    Records are appended to `unwritten`; `write` makes them durable. A request is made only of what is."""
+    Records are appended to `unwritten`; `write` makes them durable. A request is made only of what is. `frees` is
+    called with the number of a lane when it is free for the next order: at first, and when its order has its fate."""
 
-    def __init__(self, store: Store, lanes: int, once: bool, keep: int) -> None:
+    def __init__(self, store: Store, lanes: int, once: bool, keep: int, frees: Callable[[int], object]) -> None:
         if not 1 <= lanes <= 65_536:
             raise InvalidArgument(f"lanes is {lanes}; it must be 1 to 65536", "lanes", lanes)
         self.store, self.keep, self.state = store, keep, _State()
@@ -439,9 +472,12 @@ class _Book:
         self.unwritten: list[bytes] = []
         self.lanes = {it: self._lane(it, once) for it in {*range(lanes), *self.state.lanes}}
         self.client = bytes(self.lanes[0].client)
-        self.usable = range(lanes)
-        if len(records) > 4 * keep + 100:
-            store.replace(self.state.records(keep))
+        self.usable, self.frees, self.failure = range(lanes), frees, ""
+        for number in self.usable:
+            if self.order_of(number) is None:
+                frees(number)
+        # how many records the store has, and how many of them counted when it was written anew
+        self.kept, self.counted = len(records), 0
         # what was read may not be durable yet: nothing is called or reported before a record behind it is
         self.append(bytes([_OPENING]) + struct.pack(">Q", self.nonce))
         self.write()
@@ -459,17 +495,38 @@ class _Book:
         self.unwritten.append(record)
         self.appended += 1
 
-    def take_unwritten(self) -> tuple[list[bytes], int]:
-        """What is to be written, and the number of its last record."""
+    def take_unwritten(self) -> tuple[Callable[[Sequence[bytes]], None], list[bytes], int]:
+        """How and what is to be written, and the number of its last record: if the store has many records that don't
+        count any more, it is written anew. Raises NotStored."""
+        self.check()
         records, self.unwritten = self.unwritten, []
-        return records, self.appended
+        self.kept += len(records)
+        if self.kept <= 2 * self.counted + SPARE_RECORDS:
+            return self.store.write, records, self.appended
+        records = self.state.records(self.keep)
+        self.kept = self.counted = len(records)
+        return self.store.replace, records, self.appended
+
+    def check(self) -> None:
+        """Raises NotStored if a write failed earlier: what it had isn't durable, and nothing that is behind it may be
+        called or reported."""
+        if self.failure:
+            raise NotStored(self.failure)
+
+    def fail(self, why: BaseException) -> None:
+        """A write failed."""
+        self.failure = self.failure or f"an earlier write of orders failed: {why}"
 
     def write(self) -> None:
-        """Makes all that was appended durable. Raises NotStored."""
-        records, last = self.take_unwritten()
+        """Makes all that was appended durable. Raises NotStored; what the store raises."""
+        writes, records, last = self.take_unwritten()
         if records:
-            self.store.write(records)
-        self.written = max(self.written, last)
+            try:
+                writes(records)
+            except BaseException as why:
+                self.fail(why)
+                raise
+        self.written = last
 
     # orders
 
@@ -488,13 +545,15 @@ class _Book:
         has_order, uid, number, tag = struct.unpack_from(">QQQQ", bytes(self.lanes[lane].lane), 16)
         return Order(self.state.bodies[uid], uid, 0, lane, number, tag) if has_order else None
 
+    def is_open(self, order: Order) -> bool:
+        """Whether it has its lane. (Its number may be another one by now.)"""
+        it = self.order_of(order.lane) if order.lane in self.lanes else None
+        return it is not None and it.uid == order.uid
+
     def orders(self) -> list[Order]:
         """Those without a fate, in the order in which they were noted."""
         found = [it for lane in self.lanes if (it := self.order_of(lane))]
         return sorted(found, key=lambda it: it.uid)
-
-    def free_lane(self) -> int | None:
-        return next((it for it in self.usable if self.order_of(it) is None), None)
 
     def _turn(self, lane: int) -> OrdersLane:
         it = self.lanes[lane]
@@ -550,20 +609,25 @@ class _Book:
         return said
 
     def _end(self, order: Order, said: int, answer: bytes, result: bytes) -> None:
-        kept = _Kept(order, _fate(said, result), answer)
+        kept = _Kept(order, _fate(said, answer, result), answer)
         record = _fate_record(order.uid, kept, bytes(self.lanes[order.lane].lane), self.client)
         self.state.read(record)
         self.append(record)
+        # (this is the one place where an order ends, so that its lane is free once)
+        if order.lane in self.usable:
+            self.frees(order.lane)
 
     def cancel(self, order: Order) -> None:
         """From now on its calls ask that it is never executed. If it was never called it has its fate."""
-        if self.order_of(order.lane) == order:
-            if _call(library.dt_orders_cancel, self._turn(order.lane)) == _Said.NEVER:
-                self._end(order, _Said.NEVER, b"", b"")
+        if self.is_open(order) and _call(library.dt_orders_cancel, self._turn(order.lane)) == _Said.NEVER:
+            self._end(order, _Said.NEVER, b"", b"")
 
-    def fate(self, uid: int) -> Fate | None:
-        """The order's fate, which may be reported when its record is written."""
-        it = self.state.fates.get(uid)
+    def fate(self, order: Order) -> Fate | None:
+        """The order's fate, which may be reported when its record is written. Raises InvalidArgument if the order has
+        none and gets none: it is no order of this store, was undone, or had its fate so long ago that it isn't kept."""
+        it = self.state.fates.get(order.uid)
+        if it is None and not self.is_open(order):
+            raise InvalidArgument(f"order {order.uid} isn't open, and the store doesn't have its fate")
         return it.fate if it else None
 
     def taken(self, uid: int) -> None:
@@ -571,6 +635,13 @@ class _Book:
         record = bytes([_TAKEN]) + struct.pack(">Q", uid)
         self.state.read(record)
         self.append(record)
+
+    def untaken(self) -> Iterator[tuple[Order, Fate]]:
+        """The fates that the program doesn't have, each once: it has one when it takes the next."""
+        for it in list(self.state.fates.values()):
+            if it.order.uid not in self.state.taken:
+                yield it.order, it.fate
+                self.taken(it.order.uid)
 
     def take_all(self, told: list[int]) -> None:
         """The program came back: it has the fates that it was told."""
@@ -654,8 +725,22 @@ class _Backoff:
         wait, self.wait = self.wait, min(self.wait * 2, self.most)
         return wait * random.uniform(0.5, 1)
 
-    def reset(self) -> None:
-        self.wait = self.first
+
+
+class _Silence:
+    """Until when the node makes no calls, since it was opened."""
+
+    def __init__(self) -> None:
+        self.end = 0.0
+
+    def begins(self, why: Declined) -> None:
+        if why.status == Status.QUIET:
+            self.end = time.monotonic() + (why.until - clock.now() + 1) / 1000
+
+    def wait(self, backoff: _Backoff) -> float:
+        """How long to wait before the next call."""
+        left = self.end - time.monotonic()
+        return left if left > 0 else backoff.again()
 
 
 Sends = Callable[[bytes], bytes]
@@ -690,8 +775,9 @@ class Orders:
         """Opens the store: orders of earlier lives are in `unsettled`. `once`: each call is delivered once at most, as
         calls of `deltat` are; False over any other wire. `keep`: of how many orders that are done a set back tells.
         `waits`: how long to wait before the next call at first and at most. Raises NotStored; what the store raises."""
-        self._sends, self._sleep, self._waits = sends, sleep, waits
-        self._book = _Book(store, 1, once, keep)
+        self._sends, self._sleep, self._waits, self._silence = sends, sleep, waits, _Silence()
+        self._free = deque[int]()
+        self._book = _Book(store, 1, once, keep, self._free.append)
         self._undone: list[Order] | None = None
         self._told: list[int] = []
 
@@ -705,7 +791,8 @@ class Orders:
         """Closes the store. Orders without a fate stay in it."""
         self._book.take_all(self._told)
         try:
-            self._book.write()
+            if not self._book.failure:
+                self._book.write()
         finally:
             self._book.store.close()
 
@@ -716,10 +803,7 @@ class Orders:
 
     def untaken(self) -> Iterator[tuple[Order, Fate]]:
         """Returns the fates of earlier lives that no program took, each once."""
-        for it in list(self._book.state.fates.values()):
-            if it.order.uid not in self._book.state.taken:
-                yield it.order, it.fate
-                self._book.taken(it.order.uid)
+        return self._book.untaken()
 
     def give(self, body: bytes, timeout: float | None = None) -> Fate:
         """Gives an order, and returns its fate. Raises StillOpen after `timeout` seconds (None: never); SetBack; and
@@ -731,27 +815,30 @@ class Orders:
         """Notes an order: when it returns, the order is in the store, and `settle` calls it. Raises InvalidArgument if
         another order has no fate; StillOpen if the server wasn't heard of in time; SetBack; NotStored."""
         self._book.take_all(self._told)
+        self._book.check()
         self._check()
         self._meet(timeout)
-        lane = self._book.free_lane()
-        if lane is None:
+        if not self._free:
             raise InvalidArgument("an order has no fate yet: settle it first")
-        order = self._book.note(lane, body)
+        order = self._book.note(self._free[0], body)
+        self._free.popleft()
         self._book.write()
         return order
 
     def settle(self, order: Order, timeout: float | None = None) -> Fate:
-        """Calls an order until it has its fate. Raises as `give`."""
+        """Calls an order until it has its fate. Raises as `give`; InvalidArgument if it is no order of this store, or
+        was undone by a set back."""
         self._book.take_all(self._told)
         end = None if timeout is None else time.monotonic() + timeout
         wait = _Backoff(*self._waits)
-        while (fate := self._book.fate(order.uid)) is None:
+        while (fate := self._book.fate(order)) is None:
             self._check()
             self._step(order.lane)
-            if self._book.fate(order.uid) is None:
+            if self._book.fate(order) is None:
                 if self._book.is_stopped:
                     continue
-                self._pause(wait.again(), end, order)
+                self._pause(wait, end, order)
+        self._book.write()
         self._told.append(order.uid)
         return fate
 
@@ -773,7 +860,7 @@ class Orders:
                 self._check()
                 if said == _Said.WAITS:
                     return told
-            self._pause(wait.again(), end, Order(body))
+            self._pause(wait, end, Order(body))
 
     def adopt(self) -> None:
         """Goes on after SetBack, with the server's store as it is now: orders without a fate are called again."""
@@ -791,7 +878,8 @@ class Orders:
                 self._undone = self._find_undone()
             raise SetBack(self._undone)
 
-    def _pause(self, wait: float, end: float | None, order: Order) -> None:
+    def _pause(self, backoff: _Backoff, end: float | None, order: Order) -> None:
+        wait = self._silence.wait(backoff)
         if end is not None and time.monotonic() + wait > end:
             raise StillOpen(order)
         self._sleep(wait)
@@ -804,7 +892,10 @@ class Orders:
     def _sent(self, request: bytes) -> bytes | None:
         try:
             return self._sends(request)
-        except (Unsure, Declined):
+        except Unsure:
+            return None
+        except Declined as why:
+            self._silence.begins(why)
             return None
 
     def _step(self, lane: int) -> None:
@@ -820,6 +911,7 @@ class Orders:
             book.made(lane, False)
             if isinstance(why, Stopped):
                 raise
+            self._silence.begins(why)
             return
         except Unsure:
             book.made(lane, True)
@@ -839,7 +931,7 @@ class Orders:
         while answer := search.asks():
             octets = self._sent(self._book.question(answer)[1])
             if octets is None:
-                self._sleep(wait.again())
+                self._sleep(self._silence.wait(wait))
             else:
                 search.take(octets)
         return search.undone()
@@ -860,15 +952,15 @@ class AsyncOrders:
         waits: tuple[float, float] = (0.05, 30.0),
     ) -> None:
         """As `Orders`. `lanes`: how many orders are under way at most, 1 to 65,536, on lanes 0 and up."""
-        self._sends, self._waits = sends, waits
-        self._book = _Book(store, lanes, once, keep)
+        self._sends, self._waits, self._silence = sends, waits, _Silence()
         self._free = asyncio.Queue[int]()
-        for it in self._book.usable:
-            if self._book.order_of(it) is None:
-                self._free.put_nowait(it)
+        self._book = _Book(store, lanes, once, keep, self._free.put_nowait)
         self._thread = ThreadPoolExecutor(1, "deltat orders")
-        self._writing: asyncio.Task[None] | None = None
-        self._meeting = asyncio.Lock()
+        self._writing: asyncio.Future[None] | None = None
+        self._meeting, self._searching = asyncio.Lock(), asyncio.Lock()
+        # how many calls of orders wait for their end, and whether there are none
+        self._under_way, self._none_under_way = 0, asyncio.Event()
+        self._none_under_way.set()
         self._undone: list[Order] | None = None
         self._told: list[int] = []
 
@@ -884,7 +976,8 @@ class AsyncOrders:
         """Closes the store. Orders without a fate stay in it."""
         self._book.take_all(self._told)
         try:
-            await self._written()
+            if not self._book.failure:
+                await self._written()
         finally:
             self._thread.shutdown()
             self._book.store.close()
@@ -894,36 +987,52 @@ class AsyncOrders:
         """The orders without a fate. `settle` goes on with one."""
         return self._book.orders()
 
+    def untaken(self) -> Iterator[tuple[Order, Fate]]:
+        """As `Orders.untaken`. Take them before the first order is given."""
+        return self._book.untaken()
+
     async def give(self, body: bytes) -> Fate:
-        """Gives an order, and returns its fate. Raises SetBack, NotStored."""
+        """Gives an order, and returns its fate. Raises SetBack, NotStored. If the wait is cancelled, or the wire
+        raises, an order that was noted stays in the store: `unsettled` has it, and it keeps its lane until it is
+        settled."""
         return await self.settle(await self.note(body))
 
     async def note(self, body: bytes) -> Order:
-        """Notes an order when a lane is free: it is in the store then. Raises SetBack, NotStored."""
+        """Notes an order when a lane is free: it is in the store when this returns. Raises SetBack, NotStored. If the
+        wait is cancelled, either nothing was noted or `unsettled` has the order."""
+        order = await self._noted(body)
+        await self._written()
+        return order
+
+    async def _noted(self, body: bytes) -> Order:
+        """Notes an order when a lane is free. It isn't written yet."""
         self._book.take_all(self._told)
         await self._meet()
         lane = await self._free.get()
         try:
+            self._book.check()
             await self._check()
-            order = self._book.note(lane, body)
+            return self._book.note(lane, body)
         except BaseException:
             self._free.put_nowait(lane)
             raise
-        await self._written()
-        return order
 
     async def settle(self, order: Order) -> Fate:
-        """Calls an order until it has its fate. Raises SetBack, NotStored."""
+        """Calls an order until it has its fate. Several tasks may settle one order. Raises SetBack, NotStored, and what
+        the wire raises; InvalidArgument if it is no order of this store, or was undone by a set back."""
+        fate = await self._settled(order)
+        self._told.append(order.uid)
+        return fate
+
+    async def _settled(self, order: Order) -> Fate:
+        """The same, without a note that the program has the fate."""
         wait = _Backoff(*self._waits)
-        while (fate := self._book.fate(order.uid)) is None:
+        while (fate := self._book.fate(order)) is None:
             await self._check()
             await self._step(order.lane)
-            if self._book.fate(order.uid) is None and not self._book.is_stopped:
-                await asyncio.sleep(wait.again())
+            if self._book.fate(order) is None and not self._book.is_stopped:
+                await asyncio.sleep(self._silence.wait(wait))
         await self._written()
-        self._told.append(order.uid)
-        if order.lane in self._book.usable:
-            self._free.put_nowait(order.lane)
         return fate
 
     def cancel(self, order: Order) -> None:
@@ -943,22 +1052,27 @@ class AsyncOrders:
                     return told
                 if self._book.is_stopped:
                     continue
-            await asyncio.sleep(wait.again())
+            await asyncio.sleep(self._silence.wait(wait))
 
     async def adopt(self) -> None:
         """As `Orders.adopt`."""
-        if self._book.is_stopped:
-            undone = self._undone if self._undone is not None else await self._find_undone()
-            await self._written()
-            self._book.adopt(undone)
-            self._undone = None
+        async with self._searching:
+            if self._book.is_stopped:
+                undone = await self._found_undone()
+                await self._idle()
+                try:
+                    self._book.adopt(undone)
+                except BaseException as why:
+                    self._failed(why)
+                    raise
+                self._undone = None
 
     async def _check(self) -> None:
         if self._book.is_stopped:
-            await self._written()
-            if self._undone is None:
-                self._undone = await self._find_undone()
-            raise SetBack(self._undone)
+            # (one task searches; an alarm that was adopted meanwhile is over)
+            async with self._searching:
+                if self._book.is_stopped:
+                    raise SetBack(await self._found_undone())
 
     async def _meet(self) -> None:
         async with self._meeting:
@@ -968,7 +1082,10 @@ class AsyncOrders:
     async def _sent(self, request: bytes) -> bytes | None:
         try:
             return await self._sends(request)
-        except (Unsure, Declined):
+        except Unsure:
+            return None
+        except Declined as why:
+            self._silence.begins(why)
             return None
 
     async def _step(self, lane: int) -> None:
@@ -978,38 +1095,74 @@ class AsyncOrders:
         if request is None:
             return
         book.made(lane, True)
+        self._under_way += 1
+        self._none_under_way.clear()
         try:
-            octets = await self._sends(request)
+            book.heard(lane, await self._sends(request))
         except BaseException as why:
             # (a call that was declined is taken as one that may have been sent: `once` isn't used then)
             book.unsure(lane)
-            if not isinstance(why, (Unsure, Declined)):
+            if isinstance(why, Declined):
+                self._silence.begins(why)
+            elif not isinstance(why, Unsure):
                 raise
-            return
-        book.heard(lane, octets)
+        finally:
+            self._under_way -= 1
+            if not self._under_way:
+                self._none_under_way.set()
 
     async def _written(self) -> None:
         """Returns when all that is appended now is durable: what waits meanwhile is one sync."""
         last = self._book.appended
         while self._book.written < last:
-            if self._writing is None:
-                self._writing = asyncio.get_running_loop().create_task(self._write())
+            self._book.check()
+            await asyncio.shield(self._writing or self._write())
+
+    def _failed(self, why: BaseException) -> None:
+        """A write failed. Orders that wait for a lane wait no more: each takes this number, finds that and puts it
+        back."""
+        self._book.fail(why)
+        self._free.put_nowait(-1)
+
+    async def _idle(self) -> None:
+        """Returns when no thread uses the store."""
+        while self._writing:
             await asyncio.shield(self._writing)
 
-    async def _write(self) -> None:
-        try:
-            records, last = self._book.take_unwritten()
-            await asyncio.get_running_loop().run_in_executor(self._thread, self._book.store.write, records)
-            self._book.written = last
-        finally:
+    def _write(self) -> asyncio.Future[None]:
+        """Begins to write what is appended, and returns its end. It is no task, so that nothing cancels it."""
+        writes, records, last = self._book.take_unwritten()
+        loop = asyncio.get_running_loop()
+        self._writing = end = loop.create_future()
+
+        def ended(writing: asyncio.Future[None]) -> None:
             self._writing = None
+            why = asyncio.CancelledError("stopped") if writing.cancelled() else writing.exception()
+            if why is None:
+                self._book.written = last
+            else:
+                self._failed(why)
+            # (all that wait look again)
+            end.set_result(None)
+
+        loop.run_in_executor(self._thread, writes, records).add_done_callback(ended)
+        return end
+
+    async def _found_undone(self) -> list[Order]:
+        """The orders that are undone. Calls that are under way end before: one may bring a fate of before the set
+        back."""
+        await self._none_under_way.wait()
+        await self._written()
+        if self._undone is None:
+            self._undone = await self._find_undone()
+        return self._undone
 
     async def _find_undone(self) -> list[Order]:
         search, wait = _Halving(self._book.done()), _Backoff(*self._waits)
         while answer := search.asks():
             octets = await self._sent(self._book.question(answer)[1])
             if octets is None:
-                await asyncio.sleep(wait.again())
+                await asyncio.sleep(self._silence.wait(wait))
             else:
                 search.take(octets)
         return search.undone()
@@ -1018,11 +1171,11 @@ class AsyncOrders:
 # --- the server's half
 
 
-class _AtWork:
-    """See AT_WORK."""
+class AtWork:
+    """The type of AT_WORK."""
 
 
-AT_WORK = _AtWork()
+AT_WORK = AtWork()
 """What a handler returns if the order is executed and its result comes later, by `Served.finish`."""
 
 
@@ -1030,6 +1183,8 @@ class Database(Protocol):
     """The database that has a service's own data, and the tables of orders beside them."""
 
     connection: Any
+    refusals: tuple[type[Exception], ...]
+    """What `commit` raises if what a handler did breaks a constraint."""
 
     def begin(self) -> None:
         """Begins a transaction that no other writer of orders runs beside."""
@@ -1061,6 +1216,8 @@ _TABLES = (
 
 class Sqlite:
     """An SQLite database, in WAL mode with `synchronous=FULL`."""
+
+    refusals: tuple[type[Exception], ...] = (sqlite3.IntegrityError,)
 
     def __init__(self, path: str | os.PathLike[str]) -> None:
         """Raises sqlite3.Error."""
@@ -1104,6 +1261,7 @@ class Postgres:
         """`where`: as psycopg.connect takes it. Raises ImportError, psycopg.Error."""
         import psycopg
 
+        self.refusals: tuple[type[Exception], ...] = (psycopg.IntegrityError,)
         self.connection: Any = psycopg.connect(where, autocommit=True)
         self.connection.execute("SET synchronous_commit = on")
         with self.connection.transaction():
@@ -1132,7 +1290,7 @@ class Postgres:
         self.connection.close()
 
 
-Executes = Callable[[Any, Order], bytes | _AtWork]
+Executes = Callable[[Any, Order], bytes | AtWork]
 Reads = Callable[[Any, bytes], bytes]
 
 
@@ -1140,8 +1298,8 @@ class Served:
     """A server's orders: each is executed in the transaction of its row.
 
     A function that raises is rolled back, and its client calls again. It must have no effect but in the database,
-    through
-    the connection that it is given, and must not end the transaction."""
+    through the connection that it is given, and must not end the transaction. Several threads may use it: transactions
+    are one after another."""
 
     def __init__(
         self, database: Database, *, strict: bool = False, forget_after: float = 30 * 86_400, most_result: int = 4_096
@@ -1151,6 +1309,8 @@ class Served:
         written for so many seconds are forgotten. Raises what the database raises."""
         self.database, self.strict = database, strict
         self.forget_after, self.most_result = forget_after, most_result
+        self._lock = threading.RLock()
+        self._committed: list[Callable[[], None]] = []
         self._executes: Executes | None = None
         self._reads: Reads = lambda connection, body: b""
         self._numbers = b""
@@ -1242,20 +1402,40 @@ class Served:
         return self.handle_all([(client, request)])[0]
 
     def handle_all(self, requests: Sequence[tuple[int, bytes]]) -> list[bytes | None]:
-        """Handles requests in one transaction, in their order: one sync for all of them."""
-        numbers = self._numbers
+        """Handles requests in one transaction, in their order: one sync for all of them. If the database refuses to
+        commit that (a constraint that is deferred), each is handled in a transaction of its own, and the handler of the
+        one that is refused then has failed."""
         try:
-            self._begin()
-            self._forget_oldest()
-            answers = [self._answer(client, it) for client, it in requests]
-            self.database.commit()
-        except BaseException:
-            self._numbers = numbers
-            self.database.rollback()
-            raise
-        return answers
+            return self._handle(requests, True)
+        except self.database.refusals:
+            if len(requests) == 1:
+                _log.exception("orders: the database refuses an order of client %d: it is rolled back", requests[0][0])
+                return self._handle(requests, False)
+        return [answer for it in requests for answer in self.handle_all([it])]
 
-    def _answer(self, client: int, request: bytes) -> bytes | None:
+    def _handle(self, requests: Sequence[tuple[int, bytes]], executes: bool) -> list[bytes | None]:
+        """Handles requests in one transaction."""
+        with self._transaction():
+            self._forget_oldest()
+            return [self._answer(client, it, executes) for client, it in requests]
+
+    @contextlib.contextmanager
+    def _transaction(self) -> Iterator[None]:
+        """A transaction of this process, by one thread at a time."""
+        with self._lock:
+            numbers = self._numbers
+            try:
+                self._begin()
+                yield
+                self.database.commit()
+            except BaseException:
+                self._numbers = numbers
+                self.database.rollback()
+                raise
+        for it in self._committed:
+            it()
+
+    def _answer(self, client: int, request: bytes, executes: bool) -> bytes | None:
         head, body, look = request[:_REQUEST], request[_REQUEST:], OrdersLook()
         if library.dt_orders_look_up(head, len(head), look) != Status.OK:
             return None
@@ -1263,7 +1443,7 @@ class Served:
         before = bytes(turn.row), bytes(turn.numbers)
         said = _call(library.dt_orders_judge, turn, head, len(head), self.strict)
         if said == _Said.EXECUTE:
-            said, result = self._execute(turn, head, body, client)
+            said, result = self._execute(turn, head, body, client) if executes else (int(_Said.NOT_NOW), b"")
         elif said == _Said.READ:
             said, result = _Said.TOLD, self._reads(self.database.connection, body) if body else b""
         if (bytes(turn.row), bytes(turn.numbers)) != before:
@@ -1287,15 +1467,15 @@ class Served:
         finally:
             database.guard(False)
         database.run("RELEASE SAVEPOINT orders_handler")
-        is_done = not isinstance(result, _AtWork)
+        is_done = not isinstance(result, AtWork)
         _call(library.dt_orders_executed, turn, head, len(head), self.strict, is_done)
-        return (_Said.AT_WORK, b"") if isinstance(result, _AtWork) else (_Said.DONE, result)
+        return (_Said.AT_WORK, b"") if isinstance(result, AtWork) else (_Said.DONE, result)
 
-    def _run(self, order: Order) -> bytes | _AtWork:
+    def _run(self, order: Order) -> bytes | AtWork:
         if self._executes is None:
             raise InvalidArgument("no function executes orders: decorate one with `order`")
         result = self._executes(self.database.connection, order)
-        if not isinstance(result, (bytes, _AtWork)):
+        if not isinstance(result, (bytes, AtWork)):
             raise TypeError(f"a handler returned {type(result).__name__}; it must return bytes or AT_WORK")
         if isinstance(result, bytes) and len(result) > self.most_result:
             raise InvalidArgument(f"a result has {len(result)} octets; at most {self.most_result} are kept")
@@ -1303,18 +1483,16 @@ class Served:
 
     def finish(self, order: Order, result: bytes) -> bool:
         """Gives an order that is at work its result, in a transaction of its own. Returns whether it was at work."""
-        numbers = self._numbers
-        try:
-            turn, _ = self._turn(self._begin(), order.client, OrdersLook(lane=order.lane))
-            named = struct.unpack_from(">QQ", bytes(turn.row), 8) == (order.number, order.tag)
-            is_done = named and _call(library.dt_orders_finish, turn) == Status.OK
-            if is_done:
-                self._store(turn, order.client, order.lane, result)
-            self.database.commit()
-        except BaseException:
-            self._numbers = numbers
-            self.database.rollback()
-            raise
+        with self._transaction():
+            return self._finish(order, result)
+
+    def _finish(self, order: Order, result: bytes) -> bool:
+        """The same, within a transaction."""
+        turn, _ = self._turn(self._numbers, order.client, OrdersLook(lane=order.lane))
+        named = struct.unpack_from(">QQ", bytes(turn.row), 8) == (order.number, order.tag)
+        is_done = named and _call(library.dt_orders_finish, turn) == Status.OK
+        if is_done:
+            self._store(turn, order.client, order.lane, result)
         return is_done
 
     def _forget_oldest(self, most: int = 4) -> None:
@@ -1334,18 +1512,82 @@ class Served:
 
     def forget(self, client: int, lane: int) -> None:
         """Forgets a row, if its order isn't at work. Nothing is executed twice by it."""
-        numbers = self._numbers
-        try:
-            self._begin()
+        with self._transaction():
             self._forget(client, lane)
-            self.database.commit()
-        except BaseException:
-            self._numbers = numbers
-            self.database.rollback()
-            raise
 
     def run(self, calls: Calls, port: int, seconds: float | None = None) -> None:
         """Serves a port of a node, until no request arrived for this many seconds (None: until the socket is closed).
-        Each request is a transaction of its own; `handle_all` takes several. Raises what the database raises."""
-        calls.on(port)(lambda request: self.handle(request.token.flow.source, request.payload))
+        Requests that wait at the same time are one transaction. Raises what the database raises."""
+
+        def serves(request: Request) -> bytes | None:
+            batch, waiting = [request], calls._line.requests
+            while waiting and len(batch) < MOST_AT_ONCE and waiting[0].token.flow.target_port == port:
+                batch.append(waiting.popleft())
+            answered = 1
+            try:
+                answers = self.handle_all([(it.token.flow.source, it.payload) for it in batch])
+                for it, answer in zip(batch[1:], answers[1:], strict=True):
+                    if answer is not None:
+                        calls.reply(it.token, answer)
+                        answered += 1
+                    else:
+                        calls._forget(it.token)
+            except BaseException:
+                for it in batch[answered:]:
+                    calls._forget(it.token)
+                raise
+            return answers[0]
+
+        calls.on(port)(serves)
         calls.run(seconds)
+
+    async def serve(self, calls: AsyncCalls, port: int) -> None:
+        """As `run`, for asyncio: until it is cancelled or the socket is closed. Transactions run in a thread, one after
+        another."""
+        group = _Group(self)
+        calls.on(port)(group.handled)
+        try:
+            await calls.run()
+        finally:
+            group.close()
+
+
+class _Group:
+    """Requests that come while a transaction runs are the next transaction."""
+
+    def __init__(self, served: Served) -> None:
+        self.served, self.thread = served, ThreadPoolExecutor(1, "deltat orders served")
+        self.waiting: list[tuple[Request, asyncio.Future[bytes | None]]] = []
+        self.running: asyncio.Task[None] | None = None
+
+    async def handled(self, request: Request) -> bytes | None:
+        loop = asyncio.get_running_loop()
+        end: asyncio.Future[bytes | None] = loop.create_future()
+        self.waiting.append((request, end))
+        if self.running is None:
+            self.running = loop.create_task(self.run())
+        return await end
+
+    async def run(self) -> None:
+        loop = asyncio.get_running_loop()
+        try:
+            while self.waiting:
+                batch, self.waiting = self.waiting[:MOST_AT_ONCE], self.waiting[MOST_AT_ONCE:]
+                requests = [(it.token.flow.source, it.payload) for it, _ in batch]
+                try:
+                    answers = await loop.run_in_executor(self.thread, self.served.handle_all, requests)
+                except Exception as why:
+                    for _, end in batch:
+                        if not end.done():
+                            end.set_exception(why)
+                    continue
+                for (_, end), answer in zip(batch, answers, strict=True):
+                    if not end.done():
+                        end.set_result(answer)
+        finally:
+            self.running = None
+
+    def close(self) -> None:
+        for _, end in self.waiting:
+            end.cancel()
+        self.thread.shutdown()

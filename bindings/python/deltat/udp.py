@@ -89,6 +89,19 @@ class AnyUdp:
         closed."""
         return self._driven.counts
 
+    def record(self, path: str | os.PathLike[str] | None, max_octets: int = 1 << 30) -> None:
+        """Records what passes from now on into a file that Wireshark and tools/trace_token.py read, in place of one
+        that is there: each datagram, and each call, request, reply and end with its token. The recording ends at
+        `max_octets`, with `None` as path, and when the socket is closed. Raises OSError if the file can't be made;
+        OutOfMemory or Stopped."""
+        with self._lock:
+            self._driven.record(path, max_octets)
+
+    @property
+    def is_recording(self) -> bool:
+        """Whether a recording continues: it ends early at its `max_octets`, or when the disk is full."""
+        return self._driven.is_recording
+
     @property
     def is_closed(self) -> bool:
         """Whether it was closed, or is in a forked child."""
@@ -316,8 +329,8 @@ class Udp(AnyUdp):
             self.flush(at)
 
     def flush(self, at: int) -> None:
-        """Puts what left the node at the time `at` on the wire. What is later than 20 ms is dropped. Does nothing if
-        the socket is closed."""
+        """Puts what left the node at the time `at` on the wire. Without the watch what is later than 20 ms is
+        dropped. Does nothing if the socket is closed."""
         self._flush(at)
 
     def poll(self, timeout: float | None = 0.0) -> list[Message]:

@@ -1,1 +1,3 @@
 mod Scans
+mod PortKinds
+mod Told

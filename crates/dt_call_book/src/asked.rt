@@ -11,7 +11,7 @@ ghost use Rattle.dt_service_model.specs.Turns.{done_with};
 ghost use Rattle.dt_service_model.specs.Whole.{is_open};
 
 use crate::call_book::CallBook;
-use crate::counting::{ends_in, is_same, waiting_in};
+use crate::counting::{is_same, waiting_in};
 use crate::whole::{drop_token, is_open};
 use dt_items::NoMemory;
 use dt_service_model::{CallCounts, CallNumber, Cause, Happening, OpenCall, Token};
@@ -64,11 +64,11 @@ impl CallBook {
     }
 
     /// Whether one call more may wait, beside those that wait and the ends that weren't taken. The cost is
-    /// a look at each of them.
+    /// a look at each that waits.
     pub fn has_room_for_call(&self) -> bool
         ensures { result ≡ nat_lt (calls_held self.now) self.now.most.calls }
     {
-        waiting_in(&self.calls) + ends_in(&self.happenings) < self.most.calls as usize
+        waiting_in(&self.calls) + self.happenings.ends() < self.most.calls as usize
     }
 
     /// A call is made whose request of so many octets was taken. It waits until the deadline, a moment in
@@ -142,7 +142,7 @@ impl CallBook {
         ensures first { result ≡ (next self.old).0 }
         ensures others { self.new ≡ (next self.old).1 }
     {
-        if let Some(happening) = self.happenings.pop_front() {
+        if let Some(happening) = self.happenings.pop() {
             return Some(happening);
         }
         if !self.closed || self.calls.is_empty() {

@@ -4,10 +4,11 @@ ghost use Rattle.dt_service_model.specs.declared.ports.Most.{Most};
 ghost use Rattle.dt_service_model.specs.CallBook.{new_book};
 
 use crate::begun_messages::BegunMessage;
-use dt_service_model::{CallCounts, Happening, Most, OpenCall, Port, Token};
+use crate::happenings::Happenings;
+use crate::ports::Ports;
+use dt_service_model::{CallCounts, Most, OpenCall, Token};
 use dt_units::Flow;
 use std::alloc::Global;
-use std::collections::VecDeque;
 use std::marker::Model;
 
 /// The open calls of a caller and the open requests of a service, and what wasn't taken of what happened.
@@ -15,7 +16,7 @@ use std::marker::Model;
 pub struct CallBook {
     pub(crate) most: Most,
     pub(crate) closed: bool,
-    pub(crate) ports: Vec<Port>,
+    pub(crate) ports: Ports,
     pub(crate) life: u32,
     /// How many calls were made in this life: 2^32 at most.
     pub(crate) count: u64,
@@ -24,7 +25,7 @@ pub struct CallBook {
     pub(crate) begun: Vec<BegunMessage>,
     pub(crate) unread: Vec<Flow>,
     pub(crate) counts: CallCounts,
-    pub(crate) happenings: VecDeque<Happening>,
+    pub(crate) happenings: Happenings,
 }
 
 impl Model for CallBook {
@@ -32,7 +33,7 @@ impl Model for CallBook {
 
     ghost Value = { book.CallBook };
 
-    ghost view = { λ h. record { most = h.most; closed = h.closed; ports = h.ports.items; life = h.life; count = h.count; calls = h.calls.items; tokens = h.tokens.items; begun = h.begun.items; unread = h.unread.items; counts = h.counts; happenings = h.happenings.items } };
+    ghost view = { λ h. record { most = h.most; closed = h.closed; ports = h.ports; life = h.life; count = h.count; calls = h.calls.items; tokens = h.tokens.items; begun = h.begun.items; unread = h.unread.items; counts = h.counts; happenings = h.happenings } };
 }
 
 const NO_COUNTS: CallCounts = CallCounts {
@@ -53,7 +54,7 @@ impl CallBook {
         CallBook {
             most,
             closed: false,
-            ports: Vec::new(alloc),
+            ports: Ports::new(alloc),
             life,
             count: 0,
             calls: Vec::new(alloc),
@@ -61,7 +62,7 @@ impl CallBook {
             begun: Vec::new(alloc),
             unread: Vec::new(alloc),
             counts: NO_COUNTS,
-            happenings: VecDeque::new(alloc),
+            happenings: Happenings::new(alloc),
         }
     }
 }

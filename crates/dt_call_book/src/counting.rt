@@ -4,11 +4,9 @@ ghost use Rattle.std.specs.List.{list_any};
 ghost use Rattle.dt_world_model.specs.Tables.{same_flow};
 ghost use Rattle.dt_service_model.specs.declared.calls.OpenCall.{OpenCall};
 ghost use Rattle.dt_service_model.specs.declared.names.Token.{Token};
-ghost use Rattle.dt_service_model.specs.CallBook.{is_end, is_request};
 
-use dt_service_model::{Happening, OpenCall, Token};
+use dt_service_model::{OpenCall, Token};
 use dt_units::Flow;
-use std::collections::VecDeque;
 
 pub fn is_same(one: &Flow, other: &Flow) -> bool
     ensures { result ≡ same_flow one.now other.now }
@@ -31,39 +29,6 @@ pub fn tokens_of(tokens: &[Token], flow: &Flow) -> usize
         .iter()
         .filter(|token| is_same(&token.flow, flow))
         .count()
-}
-
-fn is_request(happening: &Happening) -> bool
-    ensures { result ≡ is_request happening.now }
-{
-    match happening {
-        Happening::Request { .. } => true,
-        Happening::Answered { .. } | Happening::Unsure { .. } | Happening::ReplyUncertain { .. } =>
-            false,
-    }
-}
-
-/// How many requests wait to be taken.
-pub fn requests_in(happenings: &VecDeque<Happening>) -> usize
-    ensures { result ≡ count_by is_request happenings.now.items }
-{
-    happenings.iter().filter(|h| is_request(h)).count()
-}
-
-fn is_end(happening: &Happening) -> bool
-    ensures { result ≡ is_end happening.now }
-{
-    match happening {
-        Happening::Answered { .. } | Happening::Unsure { .. } => true,
-        Happening::Request { .. } | Happening::ReplyUncertain { .. } => false,
-    }
-}
-
-/// How many ends of calls wait to be taken.
-pub fn ends_in(happenings: &VecDeque<Happening>) -> usize
-    ensures { result ≡ count_by is_end happenings.now.items }
-{
-    happenings.iter().filter(|h| is_end(h)).count()
 }
 
 /// How many calls wait.

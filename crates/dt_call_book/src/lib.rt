@@ -8,6 +8,7 @@ mod call_book;
 mod closing;
 mod counting;
 mod ends;
+mod happenings;
 mod hearing;
 mod judging;
 mod numbers;

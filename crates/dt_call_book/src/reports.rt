@@ -10,10 +10,9 @@ ghost use Rattle.dt_world_model.specs.Tables.{earliest};
 
 use crate::begun_messages::keep_received;
 use crate::call_book::CallBook;
-use crate::counting::{has_flow, requests_in, tokens_of};
+use crate::counting::{has_flow, tokens_of};
 use crate::hearing::with_fates;
-use crate::judging;
-use crate::ports::kind_in;
+use crate::judging::deadline;
 use crate::uncertain::tell_given_up;
 use dt_endpoint::Endpoint;
 use dt_items::NoMemory;
@@ -64,7 +63,7 @@ impl CallBook {
         ensures heard { OnOk result (self.new ≡ hear_as (Accepts flow) self.old) }
         ensures same { OnErr result (self.new ≡ self.old) }
     {
-        if kind_in(flow.to_port, &self.ports).is_some() && !has_flow(&self.unread, &flow) {
+        if self.kind(flow.to_port).is_some() && !has_flow(&self.unread, &flow) {
             self.unread.push(flow)?;
         }
         Ok(())
@@ -74,7 +73,7 @@ impl CallBook {
     pub fn may_read(&self, flow: &Flow) -> bool
         ensures { result ≡ may_read flow.now self.now }
     {
-        match kind_in(flow.to_port, &self.ports) {
+        match self.kind(flow.to_port) {
             Some(PortKind::Caller) => true,
             Some(PortKind::Service) => self.has_room(flow),
             None => false,
@@ -87,7 +86,7 @@ impl CallBook {
     {
         self.tokens.len() < self.most.requests as usize
             && tokens_of(&self.tokens, flow) < self.most.of_a_flow as usize
-            && requests_in(&self.happenings) < self.most.requests as usize
+            && self.happenings.requests() < self.most.requests as usize
     }
 
     /// What was begun of a flow of which the endpoint has no receiver goes, and is counted. The cost is a
@@ -106,7 +105,7 @@ impl CallBook {
     pub fn deadline(&self) -> Option<u64>
         ensures { result ≡ earliest deadline_of self.now.calls }
     {
-        judging::deadline(&self.calls)
+        deadline(&self.calls)
     }
 
     /// Calls are judged at a moment. `NoMemory` leaves all as it was.
@@ -114,6 +113,6 @@ impl CallBook {
         ensures judged { OnOk result (self.new ≡ judge now self.old) }
         ensures same { OnErr result (self.new ≡ self.old) }
     {
-        judging::judge(now, &mut self.calls, &mut self.happenings)
+        self.happenings.judge(now, &mut self.calls)
     }
 }

@@ -10,7 +10,6 @@ use crate::begun_messages::{joined, put_begun, take_begun};
 use crate::call_book::CallBook;
 use crate::counting::is_same;
 use crate::ends::end_at;
-use crate::ports::kind_in;
 use dt_items::NoMemory;
 use dt_messages::{Marks, read_message, reversed};
 use dt_service_model::{CallNumber, Happening, OpenCall, Payload, PortKind, Token};
@@ -151,7 +150,7 @@ impl CallBook {
         let number = CallNumber::from_u64(number);
         let octets = Vec::from_slice(alloc, carried)?;
         let payload = Payload { octets };
-        match kind_in(flow.to_port, &self.ports) {
+        match self.kind(flow.to_port) {
             Some(PortKind::Caller) => self.take_reply(&reversed(flow), number, payload),
             Some(PortKind::Service) => self.take_request(Token { flow, number }, payload),
             None => Ok(()),
@@ -167,8 +166,7 @@ impl CallBook {
             self.count_stray(call);
             return Ok(());
         };
-        self.happenings
-            .push_back(Happening::Answered { call, answer })?;
+        self.happenings.push(Happening::Answered { call, answer })?;
         end_at(place, &mut self.calls);
         Ok(())
     }
@@ -197,8 +195,7 @@ impl CallBook {
             return Ok(());
         }
         self.tokens.reserve(1)?;
-        self.happenings
-            .push_back(Happening::Request { token, payload })?;
+        self.happenings.push(Happening::Request { token, payload })?;
         self.tokens.push_reserved(token);
         Ok(())
     }

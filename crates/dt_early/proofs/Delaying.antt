@@ -8,7 +8,7 @@ use Rattle.dt_endpoint.specs.declared.answers.Received.{Received}
 use Rattle.dt_endpoint.specs.declared.answers.Received.TheVariants as arrived
 use Rattle.dt_early.specs.declared.early_data.Data.{Data as DataValue}
 use Rattle.dt_early.specs.Early.{Arrives, ArrivesIf, Early, EarlyShelf, HandsIn, Replays, ReplaysFor, again, aged, breaks, early_of, ends, is_alive, may_be_held, pick, is_ready, expected_at, ready, waited_by, with_early}
-use Rattle.dt_early.specs.Delays.{AreCalls, Call, Delays, HandsOver, IsDelay, IsOneOf, IsWhatCame, hands, here, loses, stays, there}
+use Rattle.dt_early.specs.Delays.{AreAt, AreCalls, Call, Delays, HandsOver, IsDelay, IsOneOf, IsWhatCame, hands, here, loses, stays, there}
 
 -- what is picked is one of the list
 pub picked_one : (test : Early → Bool) (hs : List Early) (h : Early) → (pick test hs).0 ≡ Some h → IsOneOf h hs (pick test hs).1
@@ -53,26 +53,26 @@ module _ {V : Type 0} where
       ]
 
   module _ (host : V → Host) (arrives : Received → (now link : ℕ) → List ℕ → (waited : ℕ) → V → V → Type 0) where
-    abbrev Goes : List Early → V → List Early → V → Type 0
-    Goes hs v left w = (calls : List (Call V)) × AreCalls arrives calls v w × Delays calls hs left
+    abbrev Goes : ℕ → List Early → V → List Early → V → Type 0
+    Goes now hs v left w = (calls : List (Call V)) × AreCalls arrives calls v w × AreAt now calls × Delays calls hs left
 
     abbrev call_of : (now : ℕ) (h : Early) (answer : Received) (after : V) → Call V
     call_of now h answer after = record { now = now; link = h.link; octets = h.octets; waited = waited_by now h; answer = answer; after = after }
 
-    round : (now : ℕ) (h : Early) (answer : Received) (v mid w : V) (hs rest left : List Early) → IsOneOf h hs rest → arrives answer now h.link h.octets (waited_by now h) v mid → Goes rest mid left w → Goes hs v left w
-    round now h answer v mid w hs rest left one does (calls, are, delays) = (call_of now h answer mid ∷ calls, (does, are), hands h one (refl, refl, inr refl) delays)
+    round : (now : ℕ) (h : Early) (answer : Received) (v mid w : V) (hs rest left : List Early) → IsOneOf h hs rest → arrives answer now h.link h.octets (waited_by now h) v mid → Goes now rest mid left w → Goes now hs v left w
+    round now h answer v mid w hs rest left one does (calls, are, at, delays) = (call_of now h answer mid ∷ calls, (does, are), (refl, at), hands h one (refl, refl, inr refl) delays)
 
-    pub replayed : (now : ℕ) (flow : Flow) (first last : Received) (s : EarlyShelf) (v : V) (t : EarlyShelf) (w : V) → Replays host arrives now flow first last s v t w → Goes s.held v t.held w
-    replayed now flow first last s v t w (ends none) = ([], refl, stays)
+    pub replayed : (now : ℕ) (flow : Flow) (first last : Received) (s : EarlyShelf) (v : V) (t : EarlyShelf) (w : V) → Replays host arrives now flow first last s v t w → Goes now s.held v t.held w
+    replayed now flow first last s v t w (ends none) = ([], refl, tt, stays)
     replayed now flow first last s v t w (again h got mid is does on) =
         let test = is_ready (expected_at (host v) flow) now flow in
         round now h got v mid w s.held (pick test s.held).1 t.held (picked_one test s.held h is) does (replayed now flow first last (ready (host v) now flow s).1 mid t w on)
     replayed now flow first last s v t w (breaks h is does) =
         let test = is_ready (expected_at (host v) flow) now flow in
-        round now h arrived.NoMemory v w w s.held (pick test s.held).1 t.held (picked_one test s.held h is) does ([], refl, stays)
+        round now h arrived.NoMemory v w w s.held (pick test s.held).1 t.held (picked_one test s.held h is) does ([], refl, tt, stays)
 
-    replayed_for : (brought : Option DataValue) (now : ℕ) (first last : Received) (s : EarlyShelf) (v : V) (t : EarlyShelf) (w : V) → ReplaysFor host arrives brought now first last s v t w → Goes s.held v t.held w
-    replayed_for None now first last s v t w (_, same, after) = rw (same, after) ([], refl, stays)
+    replayed_for : (brought : Option DataValue) (now : ℕ) (first last : Received) (s : EarlyShelf) (v : V) (t : EarlyShelf) (w : V) → ReplaysFor host arrives brought now first last s v t w → Goes now s.held v t.held w
+    replayed_for None now first last s v t w (_, same, after) = rw (same, after) ([], refl, tt, stays)
     replayed_for (Some d) now first last s v t w on = replayed now d.flow first last s v t w on
 
     -- what came, where nothing is known of its data
@@ -87,12 +87,12 @@ module _ {V : Type 0} where
         let came = came_so now link octets waited no_flow in
         let then = replayed_for brought now first answer (aged now s) mid t w on in
         let call : Call V = record { now = now; link = link; octets = octets; waited = waited; answer = first; after = mid } in
-        (came, record { since = refl; link = refl; octets = refl; waited = refl }, (call ∷ then.0, (does, then.1), hands came (last_one came s.held) (refl, refl, inl (refl, refl)) (joined (sifted (is_alive now) s.held) then.2)))
+        (came, record { since = refl; link = refl; octets = refl; waited = refl }, (call ∷ then.0, (does, then.1), (refl, then.2), hands came (last_one came s.held) (refl, refl, inl (refl, refl)) (joined (sifted (is_alive now) s.held) then.3)))
 
     held : (d : DataValue) (now link : ℕ) (octets : List ℕ) (waited : ℕ) (s : EarlyShelf) (v : V) (t : EarlyShelf) (w : V) → t ≡ with_early (early_of d now link octets waited) (aged now s) → w ≡ v → IsDelay arrives now link octets waited s v t w
     held d now link octets waited s v t w shelf same =
         let came = early_of d now link octets waited in
-        rw (shelf) (came, record { since = refl; link = refl; octets = refl; waited = refl }, ([], same, framed (came ∷ []) (sifted (is_alive now) s.held)))
+        rw (shelf) (came, record { since = refl; link = refl; octets = refl; waited = refl }, ([], same, tt, framed (came ∷ []) (sifted (is_alive now) s.held)))
 
     arrives_so : (b : Bool) (brought : Option DataValue) (answer : Received) (now link : ℕ) (octets : List ℕ) (waited : ℕ) (s : EarlyShelf) (v : V) (t : EarlyShelf) (w : V) → ArrivesIf host arrives b brought answer now link octets waited (aged now s) v t w → IsDelay arrives now link octets waited s v t w
     arrives_so true (Some d) answer now link octets waited s v t w (done, shelf, same) = held d now link octets waited s v t w shelf same

@@ -35,12 +35,17 @@ module _ {V : Type 0} where
     hands : {c : Call V} {cs : List (Call V)} {hs rest left : List Early} (h : Early) → IsOneOf h hs rest → HandsOver h c → Delays cs rest left → Delays (c ∷ cs) hs left
     loses : {cs : List (Call V)} {hs rest left : List Early} (h : Early) → IsOneOf h hs rest → Delays cs rest left → Delays cs hs left
 
+  -- all at one moment
+  abbrev pub AreAt : ℕ → List (Call V) → Type 0
+  AreAt now [] = Unit {0}
+  AreAt now (c ∷ cs) = (c.now ≡ now) × AreAt now cs
+
   module _ (arrives : Received → (now link : ℕ) → List ℕ → (waited : ℕ) → V → V → Type 0) where
     -- the calls are made one after another, each as its contract says
     abbrev pub AreCalls : List (Call V) → V → V → Type 0
     AreCalls [] v w = w ≡ v
     AreCalls (c ∷ cs) v w = arrives c.answer c.now c.link c.octets c.waited v c.after × AreCalls cs c.after w
 
-    -- ONE CALL OF A SHELF is a list of calls without: of what is on the shelf and what came
+    -- ONE CALL OF A SHELF is a list of calls without, at its moment: of what is on the shelf and what came
     abbrev pub IsDelay : (now link : ℕ) → List ℕ → (waited : ℕ) → EarlyShelf → V → EarlyShelf → V → Type 0
-    IsDelay now link octets waited s v t w = (came : Early) × IsWhatCame came now link octets waited × ((calls : List (Call V)) × AreCalls calls v w × Delays calls (s.held ++ came ∷ []) t.held)
+    IsDelay now link octets waited s v t w = (came : Early) × IsWhatCame came now link octets waited × ((calls : List (Call V)) × AreCalls calls v w × AreAt now calls × Delays calls (s.held ++ came ∷ []) t.held)

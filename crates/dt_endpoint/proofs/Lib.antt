@@ -1,4 +1,6 @@
 mod Collects
+mod Flushed
+mod UpToDate
 mod Going
 mod Mute
 mod Keeping

@@ -15,6 +15,7 @@ use Rattle.dt_station.specs.Stations.{StationValue, station_started}
 use Rattle.dt_endpoint.specs.Acts.{OutFrameValue, acts_of, answer_of, frames_in, reports_in}
 use Rattle.dt_endpoint.specs.Counts.{Counted, counts_acts, counts_event, counts_refused, none_counted, with_flow}
 use Rattle.dt_endpoint.specs.Collecting.{Collected}
+use Rattle.dt_endpoint.specs.Waking.{IsUpToDate, WaitOnFirst}
 use Rattle.dt_world_laws.specs.Counting.{HasTakenAtMost, octets_sent}
 
 pub record EndpointValue : Type 0 where
@@ -114,6 +115,8 @@ pub record MayGo (now : ℕ) (station : StationValue (Unit {0})) : Type 0 where
 pub record GoesOn (now octets : ℕ) (before after : StationValue (Unit {0})) : Type 0 where
   pub unspent : after.spent ≡ false
   pub taken : (bound : ℕ) → HasTakenAtMost bound before.state.host → HasTakenAtMost (bound + octets) after.state.host
+  pub wait_on_first : WaitOnFirst before.state.relay.outs → WaitOnFirst after.state.relay.outs
+  pub up_to_date : WaitOnFirst before.state.relay.outs → IsUpToDate after.rules now after.state
 
 -- an endpoint that no event has left without memory can do the next one
 pub record IsFine (asked : ℕ) (station : StationValue (Unit {0})) (collector : Collected) : Type 0 where
@@ -121,6 +124,8 @@ pub record IsFine (asked : ℕ) (station : StationValue (Unit {0})) (collector :
   pub fine : collector.failed ≡ false
   pub taken : HasTakenAtMost asked station.state.host
   pub few : asked < octets_below
+  pub wait_on_first : WaitOnFirst station.state.relay.outs
+  pub up_to_date : IsUpToDate station.rules station.latest station.state
 
 pub record IsEndpoint (latest asked : ℕ) (spent : Bool) (ins : List InLink) (station : StationValue (Unit {0})) (collector : Collected) : Type 0 where
   pub past : latest ≡ station.latest

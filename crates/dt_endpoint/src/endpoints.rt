@@ -14,6 +14,7 @@ ghost use Rattle.dt_endpoint.specs.Calls.{AddsRoute, ArriveDoes, Arrives, arrive
 ghost use Rattle.dt_endpoint.specs.Endpoints.{EventEnds, capped, endpoint_wake, moment_of, opened, script_of, waiting_octets, with_followed};
 ghost use Rattle.dt_world_laws.specs.Counting.{octets_sent};
 ghost use Rattle.dt_endpoint.specs.Hearing.{heard_in, piece_in};
+ghost use Rattle.dt_endpoint.specs.Waking.{IsUpToDate};
 
 use crate::answers::{Delivered, Received, Routed, Sent, Ticked};
 use crate::collectors::Collector;
@@ -312,8 +313,12 @@ impl Endpoint {
 
     /// The least moment in milliseconds at which something is due, or none where there is no such moment:
     /// the moment of the next tick. Any event may change it. A spent endpoint has none.
+    ///
+    /// Nothing is due at the greatest moment that an event had, and the wake is after that moment, unless
+    /// it is that of a resend that was missed.
     pub fn wake(&self) -> Option<u64>
-        ensures { result ≡ endpoint_wake self.now }
+        ensures wake { result ≡ endpoint_wake self.now }
+        ensures idle { self.now.spent ≡ false → IsUpToDate self.now.rules self.now.latest self.now.state }
     {
         if self.spent {
             return None;

@@ -1,5 +1,5 @@
 //! A guard against strangers, which stands before an endpoint.
-ghost use Rattle.std.specs.Prelude.{ℕ, ◌≡◌, List, Some, None, OnErr, OnOk, option_map};
+ghost use Rattle.std.specs.Prelude.{ℕ, ◌≡◌, List, Some, None, OnErr, OnOk, is_some, option_map, true};
 ghost use Rattle.dt_layout.specs.Spelling.{packet_of};
 ghost use Rattle.dt_endpoint.specs.Guards.{GuardValue, admission, flow_admission, guard_after, is_open, open_guard, received_on};
 
@@ -58,10 +58,11 @@ impl Guard {
 
     /// From now on these ports are open, or all of them where there is no list, and so many flows may
     /// have a receiver. Those that have one keep it. `NoMemory` where there is none for the list; then
-    /// nothing has changed.
+    /// nothing has changed. With no list it takes no memory.
     pub fn limit(&mut self, alloc: Global, ports: Option<&[u16]>, most: u32) -> Result<(), NoMemory>
         ensures done { OnOk result (self.new ≡ record self.old { ports = option_map (λ (s : _). s.now) ports.entry; most = most }) }
         ensures same { OnErr result (self.new ≡ self.old) }
+        ensures may { OnErr result (is_some ports.entry ≡ true) }
     {
         self.ports = match ports {
             Some(ports) => Some(Vec::from_slice(alloc, ports)?),

@@ -16,6 +16,8 @@ mod fixtures;
 #[cfg(test)]
 mod inboxes;
 #[cfg(test)]
+mod long_payloads;
+#[cfg(test)]
 mod pairs;
 #[cfg(test)]
 mod pieces;

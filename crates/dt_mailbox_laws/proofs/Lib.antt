@@ -2,3 +2,4 @@ mod Kept
 mod Pieces
 mod Finding
 mod Handing
+mod Gaps

@@ -228,7 +228,7 @@ served_is_on strict s c q knows h =
 pub path_of : (w : World) (strict : Bool) (s : Store) (c : Call) → Reached w → Among s w.past → c.knows ≡ Some (heard s) → (verdict_at strict w.present c ≡ verdict.Forked → ⊥) → (d : Taken) → Among d s.log → Among d w.present.log
 path_of w strict s c r m knows h =
     let l = lawful_of w r in
-    l.path s w.present m l.here (served_is_on strict w.present c (heard s) knows h)
+    (l.path s w.present m l.here (served_is_on strict w.present c (heard s) knows h)).log
 
 pub never_on_path : (w : World) (strict : Bool) (s : Store) (c : Call) (o : Name) → Reached w → Among s w.past → c.knows ≡ Some (heard s) → (verdict_at strict w.present c ≡ verdict.Forked → ⊥) → WasWithdrawn s o → executions o w.present.log ≡ 0
 never_on_path w strict s c o r m knows h x = never_by w.present o (sound_now w r) (record { stamp = x.stamp; there = path_of w strict s c r m knows h (record { name = o; stamp = x.stamp; act = Withdrawn }) x.there })

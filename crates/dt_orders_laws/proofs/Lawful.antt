@@ -7,7 +7,7 @@ use Rattle.dt_orders_model.specs.declared.knowledge.Place.{Place}
 use Rattle.dt_orders_model.specs.Closing.{IsClosed, IsOpen}
 use Rattle.dt_orders_model.specs.Histories.{IsDrawn, IsDrawnAnew, IsNew, Note, World, commit, noted}
 use Rattle.dt_orders_model.specs.Stores.{Among, Entry, Given, Name, Store, Taken, heard, is_on, is_same, place_of, reopened, row_of, shared}
-use Rattle.dt_orders_laws.proofs.Closed.{open_is_not_closed}
+use Rattle.dt_orders_laws.proofs.Closed.{KeepsClosed, open_is_not_closed}
 use Rattle.dt_orders_laws.proofs.Lists.{alike_of, either_of, same_by}
 use Rattle.dt_orders_laws.proofs.Places.{IsHeard, head_is, left_within, not_on_more, not_on_nowhere, not_there, on_goes_on, on_reopened, shared_by_more, shared_goes_on, shared_nowhere, shared_reopened, shared_within}
 use Rattle.dt_orders_laws.proofs.Sound.{Grows, Sound, grown, sound_grown, sound_reopened}
@@ -35,13 +35,31 @@ pub record IsPast (present : Store) (notes : List Note) (s : Store) : Type 0 whe
   -- what was taken up to what is shared with the present store is in that one's history
   pub agrees : (d : Taken) → Among d s.log → d.stamp ≤ shared (heard present) s → Among d present.log
 
+-- A STORE THAT GOES ON FROM ANOTHER: all that was taken, all results, and what was closed then
+pub record Extends (s t : Store) : Type 0 where
+  pub clock : s.clock ≤ t.clock
+  pub log : (d : Taken) → Among d s.log → Among d t.log
+  pub results : (g : Given) → Among g s.results → Among g t.results
+  pub keeps : KeepsClosed s.clock s.horizon s.rows t.horizon t.rows
+
+pub extends_itself : (s : Store) → Extends s s
+extends_itself s = record { clock = omega arith; log = λ d m. m; results = λ g m. m; keeps = record { keeps = λ lane number at w c. c } }
+
+pub extends_on : (s t u : Store) → Extends s t → Extends t u → Extends s u
+extends_on s t u a b = record {
+  clock = let x = a.clock in let y = b.clock in omega arith;
+  log = λ d m. b.log d (a.log d m);
+  results = λ g m. b.results g (a.results g m);
+  keeps = record { keeps = λ lane number at w c. let x = a.clock in b.keeps.keeps lane number at (omega arith) (a.keeps.keeps lane number at w c) };
+}
+
 -- A LAWFUL WORLD
 pub record Lawful (w : World) : Type 0 where
   pub here : Among w.present w.past
   pub each : (s : Store) → Among s w.past → IsPast w.present w.notes s
   pub from : (n : Note) → Among n w.notes → CameFrom w.past n
-  -- what is on the path of a store has its history in that one's
-  pub path : (s t : Store) → Among s w.past → Among t w.past → is_on (heard s) t ≡ true → (d : Taken) → Among d s.log → Among d t.log
+  -- a store goes on from what is on its path
+  pub path : (s t : Store) → Among s w.past → Among t w.past → is_on (heard s) t ≡ true → Extends s t
 
 -- what a store heard was heard of the present opening no later than now
 pub was_heard : (w : World) → Lawful w → (s : Store) → Among s w.past → IsHeard (heard s) w.present.clock w.present.opening w.present.older
@@ -132,7 +150,7 @@ came_more : (past : List Store) (s : Store) (n : Note) → CameFrom past n → C
 came_more past s n c = record { store = c.store; there = inr c.there; is = c.is }
 
 -- A COMMIT
-module _ (w : World) (l : Lawful w) (horizon : ℕ) (rows : ℕ → Option Entry) (log : List Taken) (results : List Given) (g : Grows w.present horizon rows log results) (named : (d : Taken) → Among d log → Among d w.present.log ⊎ ((d.stamp ≡ w.present.clock + 1) × IsNoted w.notes d)) (kept : (d : Taken) → Among d w.present.log → Among d log) where
+module _ (w : World) (l : Lawful w) (horizon : ℕ) (rows : ℕ → Option Entry) (log : List Taken) (results : List Given) (g : Grows w.present horizon rows log results) (named : (d : Taken) → Among d log → Among d w.present.log ⊎ ((d.stamp ≡ w.present.clock + 1) × IsNoted w.notes d)) (kept : (d : Taken) → Among d w.present.log → Among d log) (kept_results : (g : Given) → Among g w.present.results → Among g results) where
   abbrev next : Store
   next = grown w.present horizon rows log results
 
@@ -181,12 +199,15 @@ module _ (w : World) (l : Lawful w) (horizon : ℕ) (rows : ℕ → Option Entry
     agrees = λ d t h. kept d (p.agrees d t (let e = shared_by_more w.present.clock (place_of (heard w.present) s) p.newest in omega arith));
   }
 
-  next_path : (s : Store) → Among s (next ∷ w.past) → (t : Store) → Among t (next ∷ w.past) → is_on (heard s) t ≡ true → (d : Taken) → Among d s.log → Among d t.log
-  next_path = either_of (λ s. (t : Store) → Among t (next ∷ w.past) → is_on (heard s) t ≡ true → (d : Taken) → Among d s.log → Among d t.log) next w.past
-      (either_of (λ t. is_on (heard next) t ≡ true → (d : Taken) → Among d next.log → Among d t.log) next w.past (λ on d m. m)
-      (λ t m on d taken. absurd (not_on_more w.present.clock (place_of (heard w.present) t) (l.each t m).newest on)))
-      (λ s m. either_of (λ t. is_on (heard s) t ≡ true → (d : Taken) → Among d s.log → Among d t.log) next w.past
-      (λ on d taken. kept d (l.path s w.present m l.here (on_goes_on (heard s) w.present.clock w.present.opening w.present.older (was_heard w l s m) on) d taken))
+  next_extends : Extends w.present next
+  next_extends = record { clock = omega arith; log = kept; results = kept_results; keeps = g.keeps }
+
+  next_path : (s : Store) → Among s (next ∷ w.past) → (t : Store) → Among t (next ∷ w.past) → is_on (heard s) t ≡ true → Extends s t
+  next_path = either_of (λ s. (t : Store) → Among t (next ∷ w.past) → is_on (heard s) t ≡ true → Extends s t) next w.past
+      (either_of (λ t. is_on (heard next) t ≡ true → Extends next t) next w.past (λ on. extends_itself next)
+      (λ t m on. absurd (not_on_more w.present.clock (place_of (heard w.present) t) (l.each t m).newest on)))
+      (λ s m. either_of (λ t. is_on (heard s) t ≡ true → Extends s t) next w.past
+      (λ on. extends_on s w.present next (l.path s w.present m l.here (on_goes_on (heard s) w.present.clock w.present.opening w.present.older (was_heard w l s m) on)) next_extends)
       (λ t n. l.path s t m n))
 
   pub lawful_grown : Lawful (commit w next)
@@ -254,12 +275,15 @@ module _ (w : World) (l : Lawful w) (s : Store) (there : Among s w.past) (nonce 
       apart : {b : Bool} → b ≡ true → b ≡ false → ⊥
       apart x y = cc
 
-  opened_path : (t : Store) → Among t (opened ∷ w.past) → (u : Store) → Among u (opened ∷ w.past) → is_on (heard t) u ≡ true → (d : Taken) → Among d t.log → Among d u.log
-  opened_path = either_of (λ t. (u : Store) → Among u (opened ∷ w.past) → is_on (heard t) u ≡ true → (d : Taken) → Among d t.log → Among d u.log) opened w.past
-      (either_of (λ u. is_on (heard opened) u ≡ true → (d : Taken) → Among d opened.log → Among d u.log) opened w.past (λ on d m. m)
-      (λ u m on d taken. absurd (not_on_nowhere opened.clock (place_of (heard opened) u) (absent u m) on)))
-      (λ t m. either_of (λ u. is_on (heard t) u ≡ true → (d : Taken) → Among d t.log → Among d u.log) opened w.past
-      (λ on d taken. l.path t s m there (on_reopened (heard t) s.clock nonce (s.opening ∷ s.older) (other t m) on) d taken)
+  opened_extends : Extends s opened
+  opened_extends = record { clock = omega arith; log = λ d m. m; results = λ g m. m; keeps = record { keeps = λ lane number at b c. c } }
+
+  opened_path : (t : Store) → Among t (opened ∷ w.past) → (u : Store) → Among u (opened ∷ w.past) → is_on (heard t) u ≡ true → Extends t u
+  opened_path = either_of (λ t. (u : Store) → Among u (opened ∷ w.past) → is_on (heard t) u ≡ true → Extends t u) opened w.past
+      (either_of (λ u. is_on (heard opened) u ≡ true → Extends opened u) opened w.past (λ on. extends_itself opened)
+      (λ u m on. absurd (not_on_nowhere opened.clock (place_of (heard opened) u) (absent u m) on)))
+      (λ t m. either_of (λ u. is_on (heard t) u ≡ true → Extends t u) opened w.past
+      (λ on. extends_on t s opened (l.path t s m there (on_reopened (heard t) s.clock nonce (s.opening ∷ s.older) (other t m) on)) opened_extends)
       (λ u n. l.path t u m n))
 
   pub lawful_opened : Lawful (commit w opened)

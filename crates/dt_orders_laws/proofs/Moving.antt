@@ -1,13 +1,13 @@
 -- The laws, of each history.
-use Rattle.std.proofs.Common.{◌≡◌, ◌+◌, ◌≤◌, ℕ, [], ◌∷◌, Bool, false, ◌⊎◌, inl, inr, sym, subst, arith, refl}
+use Rattle.std.proofs.Common.{◌≡◌, ◌+◌, ◌≤◌, ℕ, [], ◌∷◌, Bool, true, false, ◌⊎◌, inl, inr, sym, subst, arith, refl}
 use Rattle.dt_orders_model.specs.declared.requests.Verdict.{Verdict}
 use Rattle.dt_orders_model.specs.declared.requests.Verdict.TheVariants as verdict
 use Rattle.dt_orders_model.specs.Closing.{IsOpen}
 use Rattle.dt_orders_model.specs.Histories.{Call, Commits, Goes, Note, Onward, Reached, World, asked_of, begins, cancels, commit, commits, executes, fails, finishes, first, first_store, first_world, forgets, goes, known_or, notes, on, set_back, starts, stays, touches, verdict_at}
-use Rattle.dt_orders_model.specs.Stores.{Act, Among, Executed, Given, Store, Taken, Withdrawn, is_same, meta_of, place_of, row_of, shared}
+use Rattle.dt_orders_model.specs.Stores.{Act, Among, Executed, Given, Store, Taken, Withdrawn, heard, is_on, is_same, meta_of, place_of, row_of, shared}
 use Rattle.dt_orders_laws.proofs.Closed.{KeepsClosed}
 use Rattle.dt_orders_laws.proofs.Commits.{grows_begun, grows_executed, grows_finished, grows_forgotten, grows_touched, grows_withdrawn}
-use Rattle.dt_orders_laws.proofs.Lawful.{IsNoted, IsPast, Lawful, lawful_failed, lawful_grown, lawful_new, lawful_opened, untaken_by}
+use Rattle.dt_orders_laws.proofs.Lawful.{Extends, IsNoted, IsPast, Lawful, extends_itself, lawful_failed, lawful_grown, lawful_new, lawful_opened, untaken_by}
 use Rattle.dt_orders_laws.proofs.Lists.{same_itself}
 use Rattle.dt_orders_laws.proofs.Places.{left_within}
 use Rattle.dt_orders_laws.proofs.Sound.{Sound}
@@ -19,7 +19,7 @@ lawful_first nonce = record {
   here = inl refl;
   each = λ s m. first_past s m;
   from = λ n m. elim m [ ];
-  path = λ s t m n is_on d taken. absurd (first_path s m d taken);
+  path = first_path;
 }
   where
     sound : Sound (first_store nonce)
@@ -45,9 +45,12 @@ lawful_first nonce = record {
     first_past s (inl e) = subst (λ (x : Store). IsPast (first_store nonce) [] x) (sym e) itself
     first_past s (inr x) = elim x [ ]
 
-    first_path : (s : Store) → Among s (first_store nonce ∷ []) → (d : Taken) → Among d s.log → ⊥
-    first_path s (inl e) d m = let none : Among d (first_store nonce).log = subst (λ (x : Store). Among d x.log) e m in none
-    first_path s (inr x) d m = elim x [ ]
+    first_of : (s : Store) → Among s (first_store nonce ∷ []) → s ≡ first_store nonce
+    first_of s (inl e) = e
+    first_of s (inr x) = elim x [ ]
+
+    first_path : (s t : Store) → Among s (first_store nonce ∷ []) → Among t (first_store nonce ∷ []) → is_on (heard s) t ≡ true → Extends s t
+    first_path s t m n is_there = subst (λ (x : Store). Extends x t) (sym (first_of s m)) (subst (λ (x : Store). Extends (first_store nonce) x) (sym (first_of t n)) (extends_itself (first_store nonce)))
 
 -- WHO IS TAKEN is open
 pub opened_by : (w : World) (strict : Bool) (c : Call) (v : Verdict) → Takes v → verdict_at strict w.present c ≡ v → IsOpen w.present.horizon (row_of (w.present.rows c.note.name.lane)) c.note.name.number (shared c.note.since w.present)
@@ -74,27 +77,27 @@ pub does : (w : World) (s : Store) → Lawful w → Commits w s → Does w s
 does w s l (executes strict c result m e) =
     let past = l.each w.present l.here in
     let g = grows_executed w.present c.note.name (shared c.note.since w.present) past.sound (opened_by w strict c verdict.Execute tt e) (new_by w l strict c verdict.Execute tt m e) result in
-    record { horizon = 0; lawful = lawful_grown w l _ _ _ _ g (named_by w c.note Executed m) (λ d t. inr t); keeps = g.keeps; clock = refl; log = λ d t. inr t; results = λ x t. inr t }
+    record { horizon = 0; lawful = lawful_grown w l _ _ _ _ g (named_by w c.note Executed m) (λ d t. inr t) (λ x t. inr t); keeps = g.keeps; clock = refl; log = λ d t. inr t; results = λ x t. inr t }
 does w s l (begins strict c m e) =
     let past = l.each w.present l.here in
     let g = grows_begun w.present c.note.name (shared c.note.since w.present) past.sound (opened_by w strict c verdict.Execute tt e) (new_by w l strict c verdict.Execute tt m e) in
-    record { horizon = 0; lawful = lawful_grown w l _ _ _ _ g (named_by w c.note Executed m) (λ d t. inr t); keeps = g.keeps; clock = refl; log = λ d t. inr t; results = λ x t. t }
+    record { horizon = 0; lawful = lawful_grown w l _ _ _ _ g (named_by w c.note Executed m) (λ d t. inr t) (λ x t. t); keeps = g.keeps; clock = refl; log = λ d t. inr t; results = λ x t. t }
 does w s l (cancels strict c m e) =
     let past = l.each w.present l.here in
     let g = grows_withdrawn w.present c.note.name (shared c.note.since w.present) past.sound (opened_by w strict c verdict.Cancel tt e) (new_by w l strict c verdict.Cancel tt m e) in
-    record { horizon = 0; lawful = lawful_grown w l _ _ _ _ g (named_by w c.note Withdrawn m) (λ d t. inr t); keeps = g.keeps; clock = refl; log = λ d t. inr t; results = λ x t. t }
+    record { horizon = 0; lawful = lawful_grown w l _ _ _ _ g (named_by w c.note Withdrawn m) (λ d t. inr t) (λ x t. t); keeps = g.keeps; clock = refl; log = λ d t. inr t; results = λ x t. t }
 does w s l (touches strict c entry m e is) =
     let past = l.each w.present l.here in
     let g = grows_touched w.present c.note.name.lane entry past.sound is in
-    record { horizon = 0; lawful = lawful_grown w l _ _ _ _ g (λ d t. inl t) (λ d t. t); keeps = g.keeps; clock = refl; log = λ d t. t; results = λ x t. t }
+    record { horizon = 0; lawful = lawful_grown w l _ _ _ _ g (λ d t. inl t) (λ d t. t) (λ x t. t); keeps = g.keeps; clock = refl; log = λ d t. t; results = λ x t. t }
 does w s l (finishes lane entry result is at_work) =
     let past = l.each w.present l.here in
     let g = grows_finished w.present lane entry past.sound is result at_work in
-    record { horizon = 0; lawful = lawful_grown w l _ _ _ _ g (λ d t. inl t) (λ d t. t); keeps = g.keeps; clock = refl; log = λ d t. t; results = λ x t. inr t }
+    record { horizon = 0; lawful = lawful_grown w l _ _ _ _ g (λ d t. inl t) (λ d t. t) (λ x t. inr t); keeps = g.keeps; clock = refl; log = λ d t. t; results = λ x t. inr t }
 does w s l (forgets lane entry is other) =
     let past = l.each w.present l.here in
     let g = grows_forgotten w.present lane entry past.sound is in
-    record { horizon = 0; lawful = lawful_grown w l _ _ _ _ g (λ d t. inl t) (λ d t. t); keeps = g.keeps; clock = refl; log = λ d t. t; results = λ x t. t }
+    record { horizon = 0; lawful = lawful_grown w l _ _ _ _ g (λ d t. inl t) (λ d t. t) (λ x t. t); keeps = g.keeps; clock = refl; log = λ d t. t; results = λ x t. t }
 
 -- WHAT A STEP DOES
 pub record Moves (w v : World) : Type 0 where

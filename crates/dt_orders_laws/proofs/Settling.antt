@@ -38,7 +38,7 @@ pub record Sealed (w : World) (o : Name) : Type 0 where
 turned : (a b : Name) → is_same a b ≡ true → is_same b a ≡ true
 turned a b h = same_by a b a h (same_itself a)
 
-apart : {b : Bool} → b ≡ true → b ≡ false → ⊥
+pub apart : {b : Bool} → b ≡ true → b ≡ false → ⊥
 apart x y = cc
 
 module _ (w : World) (l : Lawful w) (o : Name) (sealed : Sealed w o) where
@@ -233,7 +233,7 @@ judged_touches horizon e row is a at h =
     let it : Touches (judged_by horizon (Some e.row) a at) = subst (λ (x : Option Entry). Touches (judged_by horizon (row_of x) a at)) is h in
     touch_number e.row a at (e.row.number == a.number && e.row.tag == a.tag) (nat_le a.number e.row.number) refl it
 
-touched_number : (strict : Bool) (s : Store) (c : Call) (e : Entry) → s.rows c.note.name.lane ≡ Some e → verdict_at strict s c ≡ verdict.Touch → c.note.name.number ≤ e.row.number
+pub touched_number : (strict : Bool) (s : Store) (c : Call) (e : Entry) → s.rows c.note.name.lane ≡ Some e → verdict_at strict s c ≡ verdict.Touch → c.note.name.number ≤ e.row.number
 touched_number strict s c e is v =
     let by = judged_by s.horizon (row_of (s.rows c.note.name.lane)) (asked_of c) (shared c.note.since s) in
     let met : Verdict = if strict && not (is_met s.opening.nonce c.knows) then verdict.Hello else by in

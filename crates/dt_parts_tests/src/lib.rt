@@ -1,5 +1,5 @@
-//! Tests of the lowest parts: parameters and numbers, queues, tables of cases, deadlines, packets, their limits and the
-//! frames that hold them, reports, ledgers and shelves.
+//! Tests of the lowest parts: parameters and numbers, queues, tables of cases, deadlines, maps in the order of insertion,
+//! packets, their limits and the frames that hold them, reports, ledgers and shelves.
 #![tactic(auto)]
 
 #[cfg(test)]
@@ -14,6 +14,8 @@ mod items;
 mod ledgers;
 #[cfg(test)]
 mod octets;
+#[cfg(test)]
+mod ordered_maps;
 #[cfg(test)]
 mod packet_limits;
 #[cfg(test)]

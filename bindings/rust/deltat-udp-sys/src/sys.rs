@@ -87,6 +87,13 @@ pub struct dt_udp {
     _marker: PhantomData<(*mut u8, PhantomPinned)>,
 }
 
+/// A handle. Its octets are the library's.
+#[repr(C)]
+pub struct dt_udp_state {
+    _data: [u8; 0],
+    _marker: PhantomData<(*mut u8, PhantomPinned)>,
+}
+
 /// Zero the struct, and set `size` and what you need. A zero means the value in brackets.
 #[repr(C)]
 #[derive(Clone, Copy, Debug)]
@@ -445,6 +452,83 @@ impl dt_udp_keeper {
 }
 
 impl Default for dt_udp_keeper {
+    fn default() -> Self {
+        Self::new()
+    }
+}
+
+/// Zero the struct, and set `size` and what you need.
+#[repr(C)]
+#[derive(Clone, Copy, Debug)]
+pub struct dt_udp_state_options {
+    /// sizeof(struct dt_udp_state_options)
+    pub size: u32,
+    /// number of the node
+    pub node: u32,
+    /// of the network; copied
+    pub params: *const dt_params,
+    /// its path; it is made if it isn't there
+    pub folder: *const c_char,
+    /// 36 of "0-9a-f-": names what the readings count from \[the system's name of this start of the machine, from
+    /// which CLOCK_BOOTTIME counts\]
+    pub boot: *const c_char,
+    /// with `boot`: ns by which the readings are ahead of those of other processes
+    pub clock_ahead: i64,
+    /// DT_UDP_START_BY_STATE, or DT_UDP_START_AGAIN: as in options.start_as
+    pub start_as: u8,
+    /// as DT_UDP_FLAG_PARAMS_CHANGED
+    pub params_changed: bool,
+}
+
+impl dt_udp_state_options {
+    /// All fields 0, and `size` as it has to be.
+    pub const fn new() -> Self {
+        Self {
+            size: core::mem::size_of::<Self>() as u32,
+            node: 0,
+            params: core::ptr::null(),
+            folder: core::ptr::null(),
+            boot: core::ptr::null(),
+            clock_ahead: 0,
+            start_as: 0,
+            params_changed: false,
+        }
+    }
+}
+
+impl Default for dt_udp_state_options {
+    fn default() -> Self {
+        Self::new()
+    }
+}
+
+/// How the node starts, as its folder says.
+#[repr(C)]
+#[derive(Clone, Copy, Debug)]
+pub struct dt_udp_state_start {
+    /// one line: what that rests on
+    pub why: *const c_char,
+    /// a file that was damaged or gone, for an operator; else empty
+    pub warning: [c_char; 64],
+    /// the last that was counted: no earlier life of the node had it
+    pub life: u32,
+    /// enum dt_start
+    pub start: u8,
+}
+
+impl dt_udp_state_start {
+    /// All fields 0.
+    pub const fn new() -> Self {
+        Self {
+            why: core::ptr::null(),
+            warning: [0; 64],
+            life: 0,
+            start: 0,
+        }
+    }
+}
+
+impl Default for dt_udp_state_start {
     fn default() -> Self {
         Self::new()
     }
@@ -859,12 +943,89 @@ extern "C" {
     /// Returns the counters, which belong to the driver.
     pub fn dt_udp_get_counts(udp: *mut dt_udp) -> *const dt_udp_counts;
 
+    /// Records what passes from now on into a file, for Wireshark and tools/trace_token.py: each datagram, and each
+    /// call, request, reply and end of a call with its token (docs/formats.md, "Recordings"). A file of that name
+    /// is replaced; an earlier recording ends. It ends by itself before the file would have more than `max_octets`.
+    /// A null `path` ends it, and so does dt_udp_close. What passed since the driver last waited isn't in the file
+    /// yet.
+    ///
+    /// - `DT_OK`
+    /// - `DT_INVALID`: the file can't be made; `error` (or null) has the errno. Nothing is recorded
+    /// - `DT_NO_MEMORY`: nothing is recorded
+    ///
+    /// DT_STOPPED, DT_NOT_OPEN the driver failed, or this is a forked child Cost: 256 KB while it records; a copy
+    /// of each datagram, and a system call for each wait.
+    pub fn dt_udp_record(
+        udp: *mut dt_udp,
+        path: *const c_char,
+        max_octets: u64,
+        error: *mut dt_udp_error,
+    ) -> dt_status;
+
+    /// Returns whether the driver records: DT_OK; DT_NONE: no; DT_FULL: it ended at `max_octets`; DT_NOT_OPEN: it
+    /// ended since the system refused a write, and the file has what was written before.
+    pub fn dt_udp_recording(udp: *mut dt_udp) -> dt_status;
+
     /// Returns the handle of the node or of the service, for calls of deltat.h that the driver doesn't have
     /// (counters, dt_node_count_flow, dt_service_stop ..); null if the driver has the other. Never call what takes
     /// `now`, and never take datagrams, reports, messages or events by it.
     pub fn dt_udp_node(udp: *mut dt_udp) -> *mut dt_node;
 
     pub fn dt_udp_service(udp: *mut dt_udp) -> *mut dt_service;
+
+    /// Opens a state folder, takes its lock, and counts a life, which is on the disk when this returns. One folder
+    /// is for one opening of a node. Returns null if that fails, and `error` says why: DT_EXISTS (another process
+    /// has it), DT_INVALID (it is of another node or of other parameters; an option is wrong; no lives are left),
+    /// DT_NO_MEMORY, DT_NOT_OPEN (it can't be read or written). Cost: two syncs of the disk. With `params_changed`
+    /// it may wait for the rest of a silence.
+    pub fn dt_udp_state_open(
+        options: *const dt_udp_state_options,
+        error: *mut dt_udp_error,
+    ) -> *mut dt_udp_state;
+
+    /// Returns how the node starts. It belongs to the state.
+    pub fn dt_udp_state_get_start(state: *mut dt_udp_state) -> *const dt_udp_state_start;
+
+    /// Sets `at` to the reading to open the node at: the end of its last life, if that is known, so that the node
+    /// is silent for the rest only, or `now`. Until the rest is over nothing is noted.
+    ///
+    /// - `DT_OK`
+    /// - `DT_EXISTS`: it was called before: open another state for another opening
+    /// - `DT_NOT_OPEN`: it can't be written, or the state is closed, or this is a forked child; don't open the node
+    pub fn dt_udp_state_begin(state: *mut dt_udp_state, now: u64, at: *mut u64) -> dt_status;
+
+    /// Returns the keeper, for dt_udp_drive: the driver notes each input then. It belongs to the state, until that
+    /// is freed.
+    pub fn dt_udp_state_keeper(state: *mut dt_udp_state) -> *mut dt_udp_keeper;
+
+    /// Notes that at this reading a datagram may leave the node, or is passed in. A program with a wire of its own
+    /// calls it before each input of the node, except a tick at which nothing is due. Cost: three comparisons, and
+    /// each quarter of the quiet time a write of 125 octets.
+    ///
+    /// - `DT_OK`
+    /// - `DT_NOT_OPEN`: it can't be written, or the state is closed, or this is a forked child: don't do the input
+    pub fn dt_udp_state_note(state: *mut dt_udp_state, at: u64) -> dt_status;
+
+    /// Counts one more life, for dt_service_set_life. It is on the disk when this returns. Sets `life` to the last
+    /// one.
+    ///
+    /// - `DT_OK`
+    /// - `DT_FULL`: no lives are left
+    /// - `DT_NOT_OPEN`: it can't be written, or the state is closed, or this is a forked child
+    pub fn dt_udp_state_next_life(state: *mut dt_udp_state, life: *mut u32) -> dt_status;
+
+    /// Returns the errno of the write that failed last, or 0.
+    pub fn dt_udp_state_system_error(state: *mut dt_udp_state) -> c_int;
+
+    /// With the node closed: writes when the last datagram left or was passed in, and frees the lock. Later calls
+    /// are DT_NOT_OPEN. In a forked child it writes nothing, and the lock stays the parent's.
+    ///
+    /// - `DT_OK`
+    /// - `DT_NOT_OPEN`: it can't be written: the next start counts with what was promised ahead
+    pub fn dt_udp_state_close(state: *mut dt_udp_state) -> dt_status;
+
+    /// Frees the memory; null is allowed. A state that wasn't closed leaves what a killed program leaves.
+    pub fn dt_udp_state_free(state: *mut dt_udp_state);
 
     /// As dt_udp_open, with a node of the program, before the first call of that. Of `options` size, node, host,
     /// port, params and flags count; the guard, the ports and the routes are the program's. Without
@@ -904,9 +1065,9 @@ extern "C" {
     ) -> dt_status;
 
     /// Says that the program called a driven node at the reading `at`, and puts what left the node on the wire:
-    /// what is more than 20 ms old is dropped. If the socket wasn't looked at for 5 ms, does what is due, as
-    /// dt_udp_call and dt_udp_reply of a driven node do: so a program may make many calls in one go. Returns
-    /// whether it was looked at.
+    /// without the watch what is more than 20 ms old is dropped. If the socket wasn't looked at for 5 ms, does what
+    /// is due, as dt_udp_call and dt_udp_reply of a driven node do: so a program may make many calls in one go.
+    /// Returns whether it was looked at.
     pub fn dt_udp_flush_since(udp: *mut dt_udp, at: u64) -> bool;
 
     /// Returns the socket, which belongs to the driver, and the errno of the system call that failed, or 0.

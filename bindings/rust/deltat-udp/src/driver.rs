@@ -5,7 +5,9 @@ use std::collections::HashMap;
 use std::marker::PhantomData;
 use std::ops::Deref;
 use std::os::raw::c_int;
+use std::os::unix::ffi::OsStrExt;
 use std::os::unix::io::{AsFd, AsRawFd, BorrowedFd, RawFd};
+use std::path::Path;
 use std::ptr::NonNull;
 use std::time::Duration;
 use std::{fmt, io, process, slice};
@@ -81,7 +83,7 @@ mod role {
 unsafe impl<K: Kind> Send for Handle<K> {}
 
 /// As whole ms, rounded up: -1 is without limit, and longer waits are cut.
-fn wait_ms(wait: Option<Duration>) -> c_int {
+pub(crate) fn wait_ms(wait: Option<Duration>) -> c_int {
     wait.map_or(-1, |it| c_int::try_from(ms(it)).unwrap_or(c_int::MAX))
 }
 
@@ -339,7 +341,8 @@ impl<K: Kind> Handle<K> {
     }
 
     /// Puts what is due and what was sent on the wire now. Asking for an event does it too; between the two
-    /// at most 20 ms may pass, or what waits is dropped, and sent again after `rto`.
+    /// at most 20 ms may pass: what waits longer is older by that, and without the watch it is dropped, and sent
+    /// again after `rto`.
     pub fn flush(&self) {
         // SAFETY: as in `open_port_as`.
         unsafe { sys::dt_udp_flush(self.driver()) }
@@ -358,6 +361,40 @@ impl<K: Kind> Handle<K> {
             c::DT_NONE => Ok(false),
             status => self.check(status).map(|()| true),
         }
+    }
+
+    /// Records what passes from now on into a file that Wireshark and tools/trace_token.py read, in place of one that
+    /// is there: each datagram, and each call, request, reply and end with its token. The recording ends at
+    /// `max_octets`, by [`stop_recording`](Self::stop_recording), and when this is dropped.
+    ///
+    /// # Errors
+    ///
+    /// `Refused`: the file can't be made. `OutOfMemory`, `Stopped`, `System`. Nothing is recorded.
+    pub fn record(&self, path: &Path, max_octets: u64) -> Result<(), Error> {
+        let path = text(path.as_os_str().as_bytes(), "the file of a recording")?;
+        let mut error = sys::dt_udp_error::new();
+        // SAFETY: as in `open_port_as`; the path ends in a 0, and both live until the call returns.
+        let status =
+            unsafe { sys::dt_udp_record(self.driver(), path.as_ptr(), max_octets, &mut error) };
+        if status == c::DT_OK {
+            Ok(())
+        } else {
+            Err(Error::of_c(&error))
+        }
+    }
+
+    /// Ends the recording, if there is one.
+    pub fn stop_recording(&self) {
+        let (none, null) = (std::ptr::null(), std::ptr::null_mut());
+        // SAFETY: as in `open_port_as`; a null path ends it, which doesn't fail.
+        let _ = unsafe { sys::dt_udp_record(self.driver(), none, 0, null) };
+    }
+
+    /// Whether a recording continues: it ends early at its `max_octets`, or when the disk is full.
+    #[must_use]
+    pub fn is_recording(&self) -> bool {
+        // SAFETY: as in `open_port_as`.
+        unsafe { sys::dt_udp_recording(self.driver()) == c::DT_OK }
     }
 
     /// The number of this node.

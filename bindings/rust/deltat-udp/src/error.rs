@@ -97,6 +97,16 @@ impl Error {
         })
     }
 
+    /// Why the node refused a call ([`Driven`](crate::Driven)).
+    pub(crate) fn of_node(why: deltat::Error) -> Error {
+        match why {
+            deltat::Error::OutOfMemory => Error::OutOfMemory,
+            deltat::Error::Stopped => Error::Stopped,
+            deltat::Error::OtherProcess => Error::OtherProcess,
+            other => Error::Refused { text: other.to_string(), param: None },
+        }
+    }
+
     /// What the driver said when it refused to open, or to set a peer.
     pub(crate) fn of_c(it: &sys::dt_udp_error) -> Error {
         // SAFETY: the driver ends the text with a 0, and `new` has only zeros.

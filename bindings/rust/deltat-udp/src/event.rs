@@ -117,7 +117,7 @@ pub enum PutOutcome {
 }
 
 impl Alarm {
-    fn of_c(cause: u8) -> Alarm {
+    pub(crate) fn of_c(cause: u8) -> Alarm {
         match cause {
             sys::DT_UDP_ALARM_CLOCK => Alarm::Clock,
             sys::DT_UDP_ALARM_PARAMETERS => Alarm::Parameters,

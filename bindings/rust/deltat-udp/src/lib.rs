@@ -24,6 +24,8 @@
 //! # }
 //! ```
 //!
+//! [`Driven`] is for a node of the crate `deltat` that the program opened, with several links.
+//!
 //! In another loop, watch the descriptor of a driver for reading (`AsFd`, `AsRawFd`), and when it is
 //! readable call [`Udp::next_event_within`] with a wait of 0 until it returns None. The crate
 //! `deltat-tokio` does that under tokio.
@@ -58,6 +60,7 @@
 #![deny(unsafe_op_in_unsafe_fn)]
 
 mod counts;
+mod driven;
 mod driver;
 mod error;
 mod event;
@@ -68,6 +71,7 @@ pub use deltat::{
     BlockedCounts, CallCounts, Calls, Cause, Flow, InvalidReason, Messages, Network, NodeCounts,
     Params, PortKind, Report, ReportKind, Start, Token,
 };
+pub use driven::{Driven, DrivenKind, Peer};
 pub use driver::{fresh_number, Events, Handle, Kind, Node, Service, Udp};
 pub use error::Error;
 pub use event::{Alarm, Event, PutOutcome};

@@ -2,8 +2,8 @@
 use deltat_sys as sys;
 
 use crate::{
-    BlockedCounts, CallCounts, Cause, Flow, InvalidReason, NodeCounts, Params, Report, ReportKind,
-    Token,
+    BlockedCounts, CallCounts, Cause, Flow, InvalidReason, Link, NodeCounts, Params, Report,
+    ReportKind, Token,
 };
 
 impl From<sys::dt_flow> for Flow {
@@ -39,6 +39,12 @@ impl From<sys::dt_report> for Report {
 impl From<Params> for sys::dt_params {
     fn from(it: Params) -> sys::dt_params {
         it.to_c()
+    }
+}
+
+impl From<Link> for sys::dt_link {
+    fn from(it: Link) -> sys::dt_link {
+        sys::dt_link { charge: it.charge, pace: it.pace, number: it.number, reserved: 0 }
     }
 }
 

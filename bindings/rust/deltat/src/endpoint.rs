@@ -1,13 +1,14 @@
 //! What nodes and services have in common.
 use std::fmt;
+use std::os::raw::c_void;
 use std::process;
 use std::ptr::NonNull;
 
 use deltat_sys as sys;
 
 use crate::{
-    BlockedCounts, Datagram, Error, Fault, InvalidReason, NodeCounts, NodeOptions, Params, Route,
-    ABI_VERSION,
+    BlockedCounts, Datagram, Error, Fault, InvalidReason, Link, NodeCounts, NodeOptions, Params,
+    Route, ABI_VERSION,
 };
 
 /// The names of the parameters, in the order of the header's struct.
@@ -22,7 +23,8 @@ pub struct Endpoint<K: Kind> {
     handle: NonNull<K::Handle>,
     process: u32,
     node: u32,
-    cap: u32,
+    params: Params,
+    links: Box<[Link]>,
 }
 
 /// The two kinds of [`Endpoint`]: [`Messages`] and [`Calls`].
@@ -111,16 +113,7 @@ impl<K: Kind> Endpoint<K> {
         options: &NodeOptions<'_>,
         open: impl FnOnce(*mut K::Handle, &sys::dt_params, &sys::dt_node_options) -> sys::dt_open_result,
     ) -> Result<Endpoint<K>, Error> {
-        let links: Vec<sys::dt_link> = options
-            .links
-            .iter()
-            .map(|it| sys::dt_link {
-                charge: it.charge,
-                pace: it.pace,
-                number: it.number,
-                reserved: 0,
-            })
-            .collect();
+        let links: Vec<sys::dt_link> = options.links.iter().map(|it| (*it).into()).collect();
         let routes: Vec<sys::dt_route> =
             options.routes.iter().map(|it| sys::dt_route { to: it.to, link: it.link }).collect();
         let c_options = sys::dt_node_options {
@@ -133,7 +126,7 @@ impl<K: Kind> Endpoint<K> {
             start_as: options.start.to_c(),
             ..sys::dt_node_options::new()
         };
-        let endpoint = Endpoint::<K>::not_open(options.node, params.cap)?;
+        let endpoint = Endpoint::<K>::not_open(params, options)?;
         let opened = open(endpoint.handle.as_ptr(), &params.to_c(), &c_options);
         let named = usize::from(opened.field).checked_sub(1).and_then(|it| PARAMS.get(it));
         let reason = named.map_or(InvalidReason::Argument, |name| InvalidReason::Param {
@@ -144,7 +137,7 @@ impl<K: Kind> Endpoint<K> {
     }
 
     /// A handle that isn't open.
-    fn not_open(node: u32, cap: u32) -> Result<Endpoint<K>, Error> {
+    fn not_open(params: &Params, options: &NodeOptions<'_>) -> Result<Endpoint<K>, Error> {
         // SAFETY: it takes no pointer.
         let version = unsafe { sys::dt_abi_version() };
         if version != ABI_VERSION {
@@ -152,7 +145,8 @@ impl<K: Kind> Endpoint<K> {
         }
         // SAFETY: it takes no pointer, and what it returns is a handle or null.
         let handle = NonNull::new(unsafe { (K::TABLE.new)() }).ok_or(Error::OutOfMemory)?;
-        Ok(Endpoint { handle, process: process::id(), node, cap })
+        let (node, links) = (options.node, options.links.into());
+        Ok(Endpoint { handle, process: process::id(), node, params: *params, links })
     }
 
     /// The handle for a call, if this is the process that opened it.
@@ -166,7 +160,29 @@ impl<K: Kind> Endpoint<K> {
 
     /// Octets that a flow's send buffer holds.
     pub(crate) fn cap(&self) -> usize {
-        self.cap as usize
+        self.params.cap as usize
+    }
+
+    /// The handle of libdeltat, a `dt_node` or a `dt_service`, for crates that pass it to other libraries of C.
+    /// It is this endpoint's, until it is dropped.
+    ///
+    /// # Errors
+    ///
+    /// `OtherProcess`.
+    pub fn as_ptr(&mut self) -> Result<*mut c_void, Error> {
+        self.handle().map(<*mut K::Handle>::cast)
+    }
+
+    /// The parameters that it was opened with.
+    #[must_use]
+    pub fn params(&self) -> &Params {
+        &self.params
+    }
+
+    /// The links that it was opened with.
+    #[must_use]
+    pub fn links(&self) -> &[Link] {
+        &self.links
     }
 
     /// The number of this node.

@@ -9,7 +9,7 @@
 //! put on the wire ([`Endpoint::next_datagram`]), messages ([`Node::next_message`]), reports
 //! ([`Node::next_report`]) and the time of the next call ([`Endpoint::wake`]). A [`Service`] makes
 //! and answers calls instead. Both are kinds of [`Endpoint`], which has the calls that they share.
-//! [`Udp`] is an endpoint over a UDP socket, for programs without an event loop of their own.
+//! The crate `deltat-udp` has nodes and services over UDP sockets, and drives those of this crate.
 //!
 //! Times and durations are in milliseconds and lengths in octets, unless a name says something else.
 //!
@@ -46,8 +46,8 @@
 //!
 //! The library can't check these. If one is broken, octets may be delivered twice, or be acknowledged
 //! without having been delivered, and no call says so. This crate keeps the first two duties of
-//! include/deltat.h, memory and threads. [`Udp`] keeps the clock and the wait, and the part of the
-//! delay that is on this machine.
+//! include/deltat.h, memory and threads. Over UDP the crate `deltat-udp` keeps the clock, the wait, and the
+//! part of the delay that is on this machine.
 //!
 //! - **Clock.** Take the time from one clock that never steps back, runs at the right rate and keeps
 //!   counting while the machine sleeps: [`now`], and not [`std::time::Instant`].
@@ -89,7 +89,6 @@ mod node;
 mod report;
 mod service;
 mod types;
-mod udp;
 
 pub use clock::now;
 pub use counts::{BlockedCounts, CallCounts, FlowCounts, NodeCounts};
@@ -102,7 +101,6 @@ pub use service::{Cause, Event, PortKind, Service, ServiceOptions, Token};
 pub use types::{
     Datagram, Flow, Link, NodeOptions, Params, Route, Start, ABI_VERSION, MAX_DATAGRAM, MAX_PAYLOAD,
 };
-pub use udp::{Peer, Udp};
 
 /// The version of libdeltat that the program is linked to, as "0.3.0".
 #[must_use]

@@ -19,4 +19,4 @@ returns-clause-ends c =
     subst (λ (s : Collected). CollectEnds c.local_event-done.result script s c.local_event-done.new.visitor c.local_event-done.new.self.state) c.begin.ensures (ended c.local_event-done.result script c.begin.new.self c.local_event-done.new.visitor c.local_event-done.new.self.state c.local_event-done.ensures.script (sym c.failed.ensures ∙ c.if-failed.false))
 
 pub returns-clause-on : goal.returns-clause-on
-returns-clause-on c = event_goes CollectTells CollectTags CollectHands CollectFails c.local_event-done.result c.args.now (local_seen (length c.args.buf.now) c.args.event) c.args.station.now c.local_event-done.new.self c.begin.new.self c.local_event-done.new.visitor c.local_event-done.ensures.script c.local_event-done.ensures.spent
+returns-clause-on c = event_goes CollectTells CollectTags CollectHands CollectFails c.local_event-done.result c.args.now (local_seen (length c.args.buf.now) c.args.event) c.args.station.now c.local_event-done.new.self c.begin.new.self c.local_event-done.new.visitor c.local_event-done.ensures.script c.local_event-done.ensures.spent c.local_event-done.ensures.current

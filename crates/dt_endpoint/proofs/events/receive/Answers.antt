@@ -19,4 +19,4 @@ returns-clause-ends c =
     subst (λ (s : Collected). CollectEnds c.arrive-done.result script s c.arrive-done.new.visitor c.arrive-done.new.self.state) c.begin.ensures (ended c.arrive-done.result script c.begin.new.self c.arrive-done.new.visitor c.arrive-done.new.self.state c.arrive-done.ensures.script (sym c.failed.ensures ∙ c.if-failed.false))
 
 pub returns-clause-on : goal.returns-clause-on
-returns-clause-on c = event_goes CollectTells CollectTags CollectHands CollectFails c.arrive-done.result c.args.now (Arrive c.args.link (plain c.args.frame.now)) c.args.station.now c.arrive-done.new.self c.begin.new.self c.arrive-done.new.visitor c.arrive-done.ensures.script c.arrive-done.ensures.spent
+returns-clause-on c = event_goes CollectTells CollectTags CollectHands CollectFails c.arrive-done.result c.args.now (Arrive c.args.link (plain c.args.frame.now)) c.args.station.now c.arrive-done.new.self c.begin.new.self c.arrive-done.new.visitor c.arrive-done.ensures.script c.arrive-done.ensures.spent c.arrive-done.ensures.current

@@ -1,0 +1,4 @@
+mod Links
+mod Keeping
+mod Shelving
+mod Network

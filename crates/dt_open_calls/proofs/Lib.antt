@@ -1,0 +1,5 @@
+mod Lists
+mod Present
+mod Found
+mod Settled
+mod Kept
