@@ -73,7 +73,8 @@ port, seconds, many = int(sys.argv[1]), float(sys.argv[2]), int(sys.argv[3])
 number = deltat.fresh_number()
 node = deltat.Service(number, 1, params, [deltat.Link(1, 41)], {1: 1}, start=deltat.Start.FIRST)
 # (a flow has room for some 580 requests under way)
-flows, where = [deltat.Flow(number, 10 + it, 1, 20) for it in range(4)], (node, ("127.0.0.1", 0), {1: ("127.0.0.1", port)})
+flows = [deltat.Flow(number, 10 + it, 1, 20) for it in range(4)]
+where = (node, ("127.0.0.1", 0), {1: ("127.0.0.1", port)})
 for flow in flows:
     node.set_port(flow.source_port, deltat.PortKind.CALLER)
 

@@ -98,7 +98,8 @@ def requests(path, plain):
 
 
 def rest(path, pause):
-    """What of a processor a node uses for three seconds, in percent, while datagrams come with such pauses, or none come."""
+    """What of a processor a node uses for three seconds, in percent, while datagrams come with such pauses, or none
+    come."""
     client, port = client_socket(), free_port()
     node = node_for(path, client, port)
     before, begun, sent = used(), time.monotonic(), 0

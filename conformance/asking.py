@@ -47,7 +47,8 @@ class Asked:
 
 
 def find_targets(program: str, asked: list[Asked]) -> None:
-    """Tells the node that each goes to: a node without routes has none to it. Frames that are no Deltagram have a fault."""
+    """Tells the node that each goes to: a node without routes has none to it. Frames that are no Deltagram have a
+    fault."""
     told = heard(program, LAST_NODE, [(at + 1, it.frame) for at, it in enumerate(asked)])
     for at, it in enumerate(asked):
         word, *more = answer(told[at + 1])

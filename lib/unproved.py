@@ -179,7 +179,8 @@ def run(*words: str | pathlib.Path) -> None:
 
 
 def link(bitcode: pathlib.Path, room: pathlib.Path, out: pathlib.Path) -> None:
-    """Makes the archive of the module: what isn't an export is local, and the three functions for memory are asked for."""
+    """Makes the archive of the module: what isn't an export is local, and the three functions for memory are asked
+    for."""
     tools = kit() / "toolchain"
     clang = [tools / "bin" / "clang", "--target=x86_64-unknown-linux-gnu", f"--sysroot={tools}"]
     run(

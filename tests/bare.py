@@ -140,10 +140,8 @@ def main() -> int:
         good = is_right(here) and good
         missing = [it for it in ("aarch64-linux-gnu-gcc", "qemu-system-aarch64") if not shutil.which(it)]
         if missing or not given.aarch64.exists():
-            print(
-                "aarch64:"
-                f" {f'there is no {missing[0]}' if missing else f'{given.aarch64} is not there: lib/aarch64.py --without-heap'}"
-            )
+            absent = f"{given.aarch64} is not there: lib/aarch64.py --without-heap"
+            print(f"aarch64: {f'there is no {missing[0]}' if missing else absent}")
             return 0 if good else 1
         built("aarch64-linux-gnu-gcc", given.aarch64, folder / "there", "-T", str(BARE / "virt.ld"))
         there = said([*EMULATOR, str(folder / "there")])

@@ -163,7 +163,8 @@ def refusals() -> bool:
 
 
 def taken(nodes: list[deltat.Node], at: int, is_lost: bool = False) -> list[tuple[int, bytes, bool]]:
-    """What waits at one of two nodes comes to the other, or is lost. The messages that node 2 has then, by their ports."""
+    """What waits at one of two nodes comes to the other, or is lost. The messages that node 2 has then, by their
+    ports."""
     for node, other in (nodes, nodes[::-1]):
         node.tick(at)
         for frame in node.datagrams():
@@ -304,12 +305,14 @@ sys.path.insert(0, {path!r})
 import deltat
 number, port, to, again, seconds = (int(word) for word in sys.argv[1:6])
 params = deltat.Params(mpl=1000, r=3000, a=200, rto=100, probe=800, seg=500, cap=65536, rcap=65536, window=65536)
-node = deltat.Node(number, params, [deltat.Link(1, 300)], {{3 - number: 1}}, start=deltat.Start.AGAIN if again else deltat.Start.FIRST)
+start = deltat.Start.AGAIN if again else deltat.Start.FIRST
+node = deltat.Node(number, params, [deltat.Link(1, 300)], {{3 - number: 1}}, start=start)
 end, count = time.monotonic() + seconds, 0
 with deltat.Udp(node, ({host!r}, port), {{3 - number: ({host!r}, to)}}) as udp:
     while time.monotonic() < end:
         try:
-            udp.send(deltat.Flow(number, 10, 3 - number, 20), b"%d %d %d" % (number, deltat.now(), count) + bytes(count % 900))
+            octets = b"%d %d %d" % (number, deltat.now(), count) + bytes(count % 900)
+            udp.send(deltat.Flow(number, 10, 3 - number, 20), octets)
             count += 1
         except (deltat.Full, deltat.Quiet):
             pass
@@ -459,7 +462,8 @@ def service_of(number: int, ports: dict[int, deltat.PortKind]) -> deltat.Service
 
 
 def users() -> bool:
-    """Whether each of two calls under way ends with what it was given, in whatever order they end, and none that isn't made has an end."""
+    """Whether each of two calls under way ends with what it was given, in whatever order they end, and none that isn't
+    made has an end."""
     flow, given = deltat.Flow(1, 10, 2, 20), {b"first": 2**64 - 1, b"second": 7}
     client, server = service_of(1, {10: deltat.PortKind.CALLER}), service_of(2, {20: deltat.PortKind.SERVICE})
     at = deltat.now()

@@ -191,7 +191,8 @@ def library(given: argparse.Namespace, log: pathlib.Path) -> Iterator[Peer]:
 
 
 def dump(folder: pathlib.Path) -> bytes:
-    """The flash as it is, by QEMU's monitor, once the board has written a line of its log: by then it has counted its start."""
+    """The flash as it is, by QEMU's monitor, once the board has written a line of its log: by then it has counted its
+    start."""
     monitor, path, log = folder / "monitor", folder / "flash.now", folder / "board.log"
     until = time.monotonic() + 10
     while time.monotonic() < until and not (log.exists() and log.stat().st_size):

@@ -18,6 +18,7 @@
 
 In tests/all: PROGRAM, 300 s."""
 import collections
+import dataclasses
 import os
 import pathlib
 import re
@@ -27,6 +28,7 @@ import sys
 import tempfile
 
 from lib import TOP, program
+from lib.parameters import WORKED
 
 FOLDER = TOP / "conformance"
 sys.path[:0] = [str(FOLDER), str(TOP / "tools")]
@@ -96,7 +98,8 @@ def differences(path: str) -> bool:
 
 
 def in_c(folder: str) -> str | None:
-    """The reader in C, compiled with the sanitizers; none where there is no compiler. Raises where it doesn't compile."""
+    """The reader in C, compiled with the sanitizers; none where there is no compiler. Raises where it doesn't
+    compile."""
     compiler = next((it for it in ("gcc", "clang") if shutil.which(it)), None)
     if compiler is None:
         return None
@@ -218,10 +221,11 @@ def sizes(path: str) -> bool:
 
 
 def station(path: str) -> bool:
-    """What a new record of the plain station has in `told`: the read makes nothing due, and the acknowledgement is late."""
+    """What a new record of the plain station has in `told`: the read makes nothing due, and the acknowledgement is
+    late."""
     del path
     import station_model as plain
-    params = plain.Params(rcap=150, cap=512)
+    params = dataclasses.replace(WORKED, rcap=150, cap=512)
     it = plain.Station(1, params, 0, False)
     flow = plain.Flow(2, 20, 1, 10)
     it.arrive(10, (50, plain.Frame("data", flow, 999, 0, bytes(60), begin=True, run=True)))

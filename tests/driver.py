@@ -79,8 +79,8 @@ class Numbers:
     def line(self) -> str:
         it = self
         return (
-            "params"
-            f" {it.mpl} {it.r} {it.a} {it.rto} {it.probe} {it.seg} {it.cap} {it.rcap} {it.window} {it.run_limit} {it.start}"
+            f"params {it.mpl} {it.r} {it.a} {it.rto} {it.probe}"
+            f" {it.seg} {it.cap} {it.rcap} {it.window} {it.run_limit} {it.start}"
         )
 
 
@@ -486,7 +486,8 @@ def ran(words: list[str], text: bytes) -> tuple[int, bytes]:
 def compared(
     drivers: list[list[str]], program: str, at: int, name: str, text: bytes
 ) -> tuple[str, bytes, tuple[int, bytes], tuple[int, bytes]]:
-    """What the program makes of an input, and what the driver does: of 20 inputs one is for that with the sanitizers."""
+    """What the program makes of an input, and what the driver does: of 20 inputs one is for that with the
+    sanitizers."""
     driver = drivers[-1] if at % 20 == 0 else drivers[0]
     return name, text, ran([program, "retrace"], text), ran(driver, text)
 

@@ -510,7 +510,8 @@ static int read_clock(clockid_t clock, struct timespec *at) { return (int)syscal
 
 static void stop(void) {
     struct timespec at;
-    struct sockaddr_in there = {.sin_family = AF_INET, .sin_port = htons(to), .sin_addr.s_addr = htonl(INADDR_LOOPBACK)};
+    struct sockaddr_in there = {.sin_family = AF_INET, .sin_port = htons(to)};
+    there.sin_addr.s_addr = htonl(INADDR_LOOPBACK);
     char octets[40] = {0};
     read_clock(CLOCK_BOOTTIME, &at);
     came = at.tv_sec * 1e3 + at.tv_nsec / 1e6;
@@ -559,7 +560,8 @@ def stopped_at(place, before, stamps):
                 udp.poll(0.001)
     came = library.came_at()
     # (a moment is rounded down, and what was waited is rounded up)
-    young = [f"{at - waited - came:.0f} ms too young at reading {place}" for at, waited in node.noted if at - waited > came + 0.5]
+    ages = [at - waited - came for at, waited in node.noted]
+    young = [f"{it:.0f} ms too young at reading {place}" for it in ages if it > 0.5]
     return len(node.noted), young
 
 stops = [stopped_at(place, before, stamps) for stamps in (1, 0) for before in (1, 0) for place in range(14)]
@@ -858,7 +860,8 @@ def background_work() -> None:
 ECHO = """
 async def main():
     params = PATIENT if words[2:] == ["patient"] else PARAMS
-    node = deltat.Service(2, 1, params, LINKS, {1: 1}, start=deltat.Start.FIRST, limits=deltat.ServiceLimits(10, 4000, 4000))
+    limits = deltat.ServiceLimits(10, 4000, 4000)
+    node = deltat.Service(2, 1, params, LINKS, {1: 1}, start=deltat.Start.FIRST, limits=limits)
     node.set_port(20, deltat.PortKind.SERVICE)
     node.set_port(21, deltat.PortKind.SERVICE)
     async with deltat.AsyncUdp(node, (HOST, int(words[0])), {1: (HOST, int(words[1]))}) as udp:

@@ -585,7 +585,8 @@ def fuzz(path: str, chosen: dict[str, Kind], seconds: float, seed: int, kept: Ke
 
 
 def grow(pool: list[bytes], text: bytes, chance: random.Random) -> None:
-    """An input more to draw from; in place of another one where there are many, so that hours don't take more memory."""
+    """An input more to draw from; in place of another one where there are many, so that hours don't take more
+    memory."""
     if len(pool) < MOST_POOL:
         pool.append(text)
     else:

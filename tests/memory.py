@@ -29,7 +29,8 @@ BEFORE_LIBC = r"""
 #include <errno.h>
 #include <stdlib.h>
 #include <unistd.h>
-void *__libc_malloc(size_t), *__libc_calloc(size_t, size_t), *__libc_realloc(void *, size_t), *__libc_memalign(size_t, size_t);
+void *__libc_malloc(size_t), *__libc_calloc(size_t, size_t);
+void *__libc_realloc(void *, size_t), *__libc_memalign(size_t, size_t);
 static long calls;
 static int refused(void) {
     const char *number = getenv("REFUSED_CALL"), *fd = getenv("REFUSED_FD");

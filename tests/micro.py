@@ -196,10 +196,8 @@ def numbers_of(chance: random.Random, times: str, start: int) -> str:
 def loose_event(chance: random.Random, flows: list[str], times: tuple[int, ...], ticks: list[int]) -> str:
     kind = chance.random()
     if kind < 0.2:
-        return (
-            "send"
-            f" {chance.choice(flows)} {chance.choice(['be', 'be', 'b', '-', 'e'])} {chance.randbytes(chance.choice([1, 2, 10, 100])).hex()}"
-        )
+        flow, marks = chance.choice(flows), chance.choice(["be", "be", "b", "-", "e"])
+        return f"send {flow} {marks} {chance.randbytes(chance.choice([1, 2, 10, 100])).hex()}"
     if kind < 0.3:
         return f"read {chance.choice(flows)} {chance.choice([1, 10, 65536])}"
     if kind < 0.7:

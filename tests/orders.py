@@ -8,8 +8,8 @@
   has, or answers otherwise;
 - `module`: over a wire that loses, repeats and holds back, and stores that die at any write and lose what wasn't
   written, an order is executed twice, or its fate isn't so; a set back isn't told, or not exactly;
-- `lanes`: in AsyncOrders a lane has two orders or none gets it again, whatever is settled twice, cancelled or raises; an
-  alarm doesn't name exactly what is undone; or after a write that failed something is called, or waits for ever;
+- `lanes`: in AsyncOrders a lane has two orders or none gets it again, whatever is settled twice, cancelled or raises;
+  an alarm doesn't name exactly what is undone; or after a write that failed something is called, or waits for ever;
 - `log`: a log that is cut anywhere, or has a changed octet, isn't read as a first part of its records;
 - `killed`: of two processes, each is killed at each of its system calls that write, sync, send or receive, and an order
   is lost or executed twice;

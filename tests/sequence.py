@@ -237,7 +237,8 @@ def parted(log: str, zeros: dict[str, int]) -> list[str]:
 
 
 def bare(arrow: Arrow) -> Arrow:
-    """An arrow without moments. Where nothing more is told of a copy, logs alone can't tell it from one that was lost."""
+    """An arrow without moments. Where nothing more is told of a copy, logs alone can't tell it from one that was
+    lost."""
     fate = "gone" if arrow.fate.startswith(("lost", "no", "nothing")) else arrow.fate.split(" at ")[0]
     return arrow._replace(fate=fate)
 
@@ -276,17 +277,38 @@ def one(program: str) -> tuple[bool, str]:
 
 # Each text's box, and what is wrong with it.
 CHECK = """<script>
-const boxes = [...document.querySelectorAll("svg text")].map((it) => [it, it.getBoundingClientRect()]).filter(([, b]) => b.width);
+const all = [...document.querySelectorAll("svg text")].map((it) => [it, it.getBoundingClientRect()]);
+const boxes = all.filter(([, b]) => b.width);
 const frame = document.querySelector("svg").getBoundingClientRect(), wrong = [];
-const straight = boxes.filter(([it]) => !it.classList.contains("label")).map(([it, b]) => [it.firstChild.textContent, b]);
-for (const [text, b] of boxes.map(([it, b]) => [it.firstChild.textContent, b])) if (b.left < frame.left || b.right > frame.right || b.top < frame.top || b.bottom > frame.bottom) wrong.push("cut off: " + text);
+const named = ([it, b]) => [it.firstChild.textContent, b];
+const isLabel = ([it]) => it.classList.contains("label");
+const straight = boxes.filter((it) => !isLabel(it)).map(named);
+const isOutside = (b) => b.left < frame.left || b.right > frame.right || b.top < frame.top || b.bottom > frame.bottom;
+for (const [text, b] of boxes.map(named)) if (isOutside(b)) wrong.push("cut off: " + text);
 straight.sort((a, b) => a[1].top - b[1].top);
-straight.forEach(([text, a], i) => { for (let j = i + 1; j < straight.length && straight[j][1].top < a.bottom; j += 1) { const b = straight[j][1]; if (a.left < b.right && b.left < a.right && b.top < a.bottom - 1.5) wrong.push(text + " hides " + straight[j][0]); } });
-const place = (it) => { const m = it.getScreenCTM(), n = it.getComputedTextLength() / 2, points = []; for (let at = -n; at <= n; at += 6) points.push([m.a * at + m.c * -8 + m.e, m.b * at + m.d * -8 + m.f]); return points; };
-const labels = boxes.filter(([it]) => it.classList.contains("label")).map(([it, b]) => [it.textContent, b, place(it)]).sort((a, b) => a[1].top - b[1].top);
-let hidden = 0;
-labels.forEach(([text, a, points], i) => { for (let j = i + 1; j < labels.length && labels[j][1].top < a.bottom; j += 1) if (points.some((p) => labels[j][2].some((q) => Math.hypot(p[0] - q[0], p[1] - q[1]) < 8))) { hidden += 1; wrong.push(text + " hides " + labels[j][0]); } });
-const told = document.createElement("pre"); told.id = "told"; told.textContent = JSON.stringify({ texts: boxes.length, wrong: wrong.slice(0, 5), count: wrong.length }); document.body.append(told);
+straight.forEach(([text, a], i) => {
+  for (let j = i + 1; j < straight.length && straight[j][1].top < a.bottom; j += 1) {
+    const b = straight[j][1];
+    if (a.left < b.right && b.left < a.right && b.top < a.bottom - 1.5) wrong.push(text + " hides " + straight[j][0]);
+  }
+});
+const place = (it) => {
+  const m = it.getScreenCTM(), n = it.getComputedTextLength() / 2, points = [];
+  for (let at = -n; at <= n; at += 6) points.push([m.a * at + m.c * -8 + m.e, m.b * at + m.d * -8 + m.f]);
+  return points;
+};
+const labels = boxes.filter(isLabel).map(([it, b]) => [it.textContent, b, place(it)]);
+labels.sort((a, b) => a[1].top - b[1].top);
+const isNear = (p, q) => Math.hypot(p[0] - q[0], p[1] - q[1]) < 8;
+labels.forEach(([text, a, points], i) => {
+  for (let j = i + 1; j < labels.length && labels[j][1].top < a.bottom; j += 1) {
+    if (points.some((p) => labels[j][2].some((q) => isNear(p, q)))) wrong.push(text + " hides " + labels[j][0]);
+  }
+});
+const told = document.createElement("pre");
+told.id = "told";
+told.textContent = JSON.stringify({ texts: boxes.length, wrong: wrong.slice(0, 5), count: wrong.length });
+document.body.append(told);
 </script>"""
 
 
@@ -315,8 +337,13 @@ def layout(program: str) -> tuple[bool, str]:
 
 DROP = """<script>
 const give = %s;
-opened(give.map((it) => new File([it.text], it.name))).then(() => { const told = document.createElement("pre"); told.id = "told";
-  told.textContent = JSON.stringify({ svg: document.getElementById("picture").innerHTML, fault: document.getElementById("fault").textContent }); document.body.append(told); });
+opened(give.map((it) => new File([it.text], it.name))).then(() => {
+  const told = document.createElement("pre");
+  const [svg, fault] = [document.getElementById("picture").innerHTML, document.getElementById("fault").textContent];
+  told.id = "told";
+  told.textContent = JSON.stringify({ svg, fault });
+  document.body.append(told);
+});
 </script>"""
 
 

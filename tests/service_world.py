@@ -16,6 +16,7 @@ from collections import Counter, defaultdict
 import service_model
 import station_model
 from lib import TOP
+from lib.parameters import WORKED
 from service_model import CALLER, SERVICE, Flow, Limits, Piece, Report, Token
 from service_rows import FLOW_NAMES, STATION_WORDS, Row
 from service_wire import Broken, holds
@@ -135,7 +136,7 @@ class Simulated:
     and the last acknowledgement of each flow."""
 
     def __init__(self, params: dict[str, int], deltat: types.ModuleType | None) -> None:
-        self.params, self.deltat = station_model.Params(**params), deltat
+        self.params, self.deltat = dataclasses.replace(WORKED, **params), deltat
         self.frames: dict[tuple[str, ...], object] = {}
         self.stations: list[PlainStation | LibraryStation] = []
 
@@ -350,7 +351,8 @@ class World:
         self.chance, self.deltat = random.Random(seed), deltat
         self.make, chance = Pair if deltat else Alone, self.chance
         seg, room = chance.choice([10, 100]), chance.choice([40, 400])
-        self.params = station_model.Params(
+        self.params = dataclasses.replace(
+            WORKED,
             mpl=100,
             r=chance.choice([60, 300]),
             a=20,

@@ -64,7 +64,8 @@ class Place:
 
     @property
     def patience(self) -> float:
-        """In seconds: as long as a request that was sent at once and its answer are under way, and the service's time."""
+        """In seconds: as long as a request that was sent at once and its answer are under way, and the service's
+        time."""
         mpl, r = self.params[:2]
         return (2 * (mpl + r) + 300) / 1000
 
@@ -173,7 +174,8 @@ def unseen() -> list[str]:
 
 
 class Callers:
-    """The service and its clients in a round of so many seconds. With no places there are none, and nothing is judged."""
+    """The service and its clients in a round of so many seconds. With no places there are none, and nothing is
+    judged."""
 
     def __init__(self, places: Sequence[Place], chance: random.Random, seconds: float) -> None:
         self.chance, self.seconds = chance, seconds

@@ -7,36 +7,10 @@ from collections import deque
 from dataclasses import dataclass, field
 from typing import NamedTuple
 
+from lib.parameters import Params
 from service_model import Flow, Piece, Report
 
 OUTSTANDING = 64
-
-
-@dataclass(frozen=True)
-class Params:
-    """Times in ms, rooms in octets."""
-
-    mpl: int = 1000
-    r: int = 3000
-    a: int = 200
-    rto: int = 500
-    probe: int = 800
-    seg: int = 100
-    cap: int = 4096
-    rcap: int = 4096
-    window: int = 4096
-
-    @property
-    def receive(self) -> int:
-        return self.mpl + self.r + self.a
-
-    @property
-    def give(self) -> int:
-        return 2 * self.mpl + self.r + self.a
-
-    @property
-    def send(self) -> int:
-        return 3 * self.mpl + self.r + self.a
 
 
 class Frame(NamedTuple):

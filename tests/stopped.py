@@ -163,7 +163,8 @@ def late(deltat: str) -> tuple[bool, bool, bool]:
 
 
 def tried(deltat: str) -> tuple[bool, bool, bool]:
-    """The same. A run whose sender wasn't blocked shows nothing, and there is another attempt, unless it lost octets."""
+    """The same. A run whose sender wasn't blocked shows nothing, and there is another attempt, unless it lost
+    octets."""
     for _ in range(ATTEMPTS):
         settled, read, waits = late(deltat)
         if waits or (settled and not read):
@@ -297,7 +298,8 @@ int clock_gettime(clockid_t id, struct timespec *t) {
     }
     syscall(SYS_clock_gettime, CLOCK_MONOTONIC, &now);
     if (!begun.tv_sec) begun = now;
-    if (id == CLOCK_BOOTTIME && (now.tv_sec - begun.tv_sec) * 1000 + (now.tv_nsec - begun.tv_nsec) / 1000000 > 400) t->tv_sec += 3600;
+    long since = (now.tv_sec - begun.tv_sec) * 1000 + (now.tv_nsec - begun.tv_nsec) / 1000000;
+    if (id == CLOCK_BOOTTIME && since > 400) t->tv_sec += 3600;
     return result;
 }
 """

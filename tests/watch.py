@@ -253,7 +253,8 @@ def runs_of(case: str, programs: Programs, runs: int) -> str:
 
 
 def form(programs: Programs) -> str:
-    """The codec: the worked trailer of docs/formats.md, each octet of it at each value, and other versions and kinds."""
+    """The codec: the worked trailer of docs/formats.md, each octet of it at each value, and other versions and
+    kinds."""
     lines = (TOP / "docs" / "formats.md").read_text().splitlines()
     worked = bytes.fromhex(next(it for it in lines if it.startswith("a1b2c3d4")))
     changed = [

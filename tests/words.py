@@ -77,7 +77,10 @@ def summary(rounds):
         taken += 1 + draw // 4 % 16
         end += 520 if draw % 4 == 2 else 20
     return (
-        f"flow 1:10>2:20 taken {taken} acked {taken} uncertain 0 open 0 given {taken} read {taken}\nend {end}\n".encode()
+        (
+            f"flow 1:10>2:20 taken {taken} acked {taken} uncertain 0 open 0 "
+            f"given {taken} read {taken}\nend {end}\n"
+        ).encode()
     )
 
 
