@@ -2,8 +2,8 @@
 """What a bottleneck carries, by our driver and by TCP, alone and beside each other: `bench/bottleneck.py`.
 
 A link of 100 Mbit/s and 20 ms each way between two network namespaces (tests/wan.py; it needs root), with a queue of 8,
-40 and 500 ms each; its carrier is tests/watch/relay.c, with whole packets. The ends are tests/watch/ends.c, with calls of
-32 KiB, 512 under way, and sockets of TCP.
+40 and 500 ms each; its carrier is tests/watch/relay.c, with whole packets. The ends are tests/watch/ends.c, with calls
+of 32 KiB, 512 under way, and sockets of TCP.
 
   alone   16 MiB: the seconds of ours, of TCP with cubic and with bbr; how many of our packets were crowded out
   two     two clients of ours to one service, --seconds each: megabytes a second of each
@@ -183,7 +183,10 @@ def two(programs: Programs, queue_ms: int, seconds: float, seed: int) -> str:
         found = [of_ours(end, seconds) for end in ends]
     share = max(found).octets / max(sum(each.octets for each in found), 1)
     shown = f"{found[0]}, {found[1]}: {100 * share:.0f} to {100 - 100 * share:.0f}; "
-    shown += f"{100 * said['udp_crowded'] / max(said['of_udp'], 1):.1f} % crowded out, longest queue {said['queue_us'] / 1000:.0f} ms"
+    shown += (
+        f"{100 * said['udp_crowded'] / max(said['of_udp'], 1):.1f} % crowded out, longest queue"
+        f" {said['queue_us'] / 1000:.0f} ms"
+    )
     return shown
 
 

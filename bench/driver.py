@@ -74,7 +74,8 @@ port, seconds, many = int(sys.argv[1]), float(sys.argv[2]), int(sys.argv[3])
 number = deltat.fresh_number()
 node = deltat.Service(number, 1, params, [deltat.Link(1, 41)], {1: 1}, start=deltat.Start.FIRST)
 # (a flow has room for some 580 requests under way)
-flows, where = [deltat.Flow(number, 10 + it, 1, 20) for it in range(4)], (node, ("127.0.0.1", 0), {1: ("127.0.0.1", port)})
+flows = [deltat.Flow(number, 10 + it, 1, 20) for it in range(4)]
+where = (node, ("127.0.0.1", 0), {1: ("127.0.0.1", port)})
 for flow in flows:
     node.set_port(flow.source_port, deltat.PortKind.CALLER)
 
@@ -260,7 +261,8 @@ def main() -> int:
                 answers[name].append(from_python(folder, many, given.seconds))
     best = {name: max(it[0] for it in found) for name, found in answers.items()}
     print(
-        "answers: the best run, what it is of the peer that it is compared with, processor at both ends (Python: the caller's)"
+        "answers: the best run, what it is of the peer that it is compared with, processor at both ends (Python: the"
+        " caller's)"
     )
     for name, found in answers.items():
         print(line(name, found, best.get(PEERS[name].of if name in PEERS else "calls", 0)))

@@ -1,12 +1,13 @@
 #!/usr/bin/env python3
 """What many flows cost `replay`. `bench/flows.py [PROGRAM]`.
 
-- A schedule on 20,000 flows beside one on 20 with as many lines and octets, in seconds, peak memory and the factor between
-  their times, for two sizes of the records' rooms. Each flow's records stand to the end, so each event finds its
-  act among those of all flows.
+- A schedule on 20,000 flows beside one on 20 with as many lines and octets, in seconds, peak memory and the factor
+  between their times, for two sizes of the records' rooms. Each flow's records stand to the end, so each event finds
+  its act among those of all flows.
 - A release: each of 2,000 and of 20,000 flows has sent one message and goes quiet, and then one tick of either node
   releases all of their records. Beside it the same schedule without its end: the rest is what the two ticks took. The
-  factor is that of a flow: 1 where a tick's cost grows with the flows that it releases, 10 where it grows with their square.
+  factor is that of a flow: 1 where a tick's cost grows with the flows that it releases, 10 where it grows with their
+  square.
 
 Ends with 1 where a schedule isn't accepted."""
 import os
@@ -65,8 +66,9 @@ def run(binary, path):
 
 
 def measure(binary, *wanted):
-    """The least seconds of some runs of each schedule, or None of one that isn't accepted. The runs take turns, since the speed of a
-    machine that others share changes within seconds. What is wanted is flows, room, rounds and an end. Prints a row each."""
+    """The least seconds of some runs of each schedule, or None of one that isn't accepted. The runs take turns, since
+    the speed of a machine that others share changes within seconds. What is wanted is flows, room, rounds and an end.
+    Prints a row each."""
     with tempfile.TemporaryDirectory() as folder:
         paths = [os.path.join(folder, f"{i}.schedule") for i in range(len(wanted))]
         lines = []
@@ -106,7 +108,10 @@ def main():
     if None in each:
         return 1
     for flows, seconds in zip(RELEASED, each):
-        print(f"release of {flows} in a tick of either node: {seconds * flows * 1e3:.1f} ms, {seconds * 1e6:.2f} us a flow")
+        print(
+            f"release of {flows} in a tick of either node: {seconds * flows * 1e3:.1f} ms, {seconds * 1e6:.2f} us a"
+            " flow"
+        )
     print(f"factor {each[1] / each[0]:.2f}")
     return 0
 

@@ -3,10 +3,11 @@
 `bench/all --gate-log LOG` reads.
 
 Each line of `rt ci` is written with the seconds since its start before it. Behind its last line stand lines that
-begin with `#`: seconds and seconds of processor in all, and those that the host of this machine gave to others meanwhile;
-those of each part, and those of the crates that take most, the dearest first. Proofs, tests and edits are at work side by side, so of a part only processor seconds are told; they
-are read from /proc twice a second, so what a process took in its last half second is missing, and counts as other
-work. So does what `rt` itself takes, which reads sources for all."""
+begin with `#`: seconds and seconds of processor in all, and those that the host of this machine gave to others
+meanwhile; those of each part, and those of the crates that take most, the dearest first. Proofs, tests and edits are at
+work side by side, so of a part only processor seconds are told; they are read from /proc twice a second, so what a
+process took in its last half second is missing, and counts as other work. So does what `rt` itself takes, which reads
+sources for all."""
 import contextlib
 import os
 import pathlib
@@ -56,7 +57,11 @@ class Taken:
         above, own = {}, {}
         for entry in os.listdir("/proc"):
             try:
-                fields = pathlib.Path("/proc", entry, "stat").read_text().rpartition(")")[2].split() if entry.isdigit() else None
+                fields = (
+                    pathlib.Path("/proc", entry, "stat").read_text().rpartition(")")[2].split()
+                    if entry.isdigit()
+                    else None
+                )
             except OSError:
                 continue
             if fields:
@@ -84,7 +89,10 @@ class Taken:
 
     def dearest(self) -> Iterator[str]:
         """A line for each of the crates that take most, below a head."""
-        rows = [(name, [self.of(part, name) for part in OF_A_CRATE]) for name in {name for _, name, _ in self.seen.values()} - {""}]
+        rows = [
+            (name, [self.of(part, name) for part in OF_A_CRATE])
+            for name in {name for _, name, _ in self.seen.values()} - {""}
+        ]
         yield f"{'crate':18}" + "".join(f"{it:>8}" for it in (*OF_A_CRATE, "all"))
         for name, seconds in sorted(rows, key=lambda row: -sum(row[1]))[:DEAREST]:
             yield f"{name:18}" + "".join(f"{it:8.0f}" for it in (*seconds, sum(seconds)))
@@ -93,7 +101,15 @@ class Taken:
 def main() -> int:
     folder = sys.argv[1] if len(sys.argv) > 1 else str(pathlib.Path(__file__).resolve().parent.parent)
     taken, begun, ended, before = Taken(), time.monotonic(), threading.Event(), stolen()
-    gate = subprocess.Popen(["rt", "ci"], cwd=folder, stdin=subprocess.DEVNULL, stdout=subprocess.PIPE, stderr=subprocess.STDOUT, text=True, errors="replace")
+    gate = subprocess.Popen(
+        ["rt", "ci"],
+        cwd=folder,
+        stdin=subprocess.DEVNULL,
+        stdout=subprocess.PIPE,
+        stderr=subprocess.STDOUT,
+        text=True,
+        errors="replace",
+    )
 
     def watch() -> None:
         while not ended.wait(EVERY):
@@ -108,7 +124,10 @@ def main() -> int:
     watching.join()
     used = resource.getrusage(resource.RUSAGE_CHILDREN)
     whole = used.ru_utime + used.ru_stime
-    print(f"# in all {time.monotonic() - begun:.0f} s, {whole:.0f} s of processor, on {len(os.sched_getaffinity(0))} processors; their host gave {stolen() - before:.0f} s more to other machines")
+    print(
+        f"# in all {time.monotonic() - begun:.0f} s, {whole:.0f} s of processor, on"
+        f" {len(os.sched_getaffinity(0))} processors; their host gave {stolen() - before:.0f} s more to other machines"
+    )
     for part in PARTS:
         print(f"# {part} {taken.of(part):.0f} s of processor")
     print(f"# other {max(whole - sum(taken.of(it) for it in PARTS), 0):.0f} s of processor")

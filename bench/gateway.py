@@ -1,6 +1,6 @@
 #!/usr/bin/env python3
-"""What a gateway costs: orders a second and their latency by ab, at the HTTP server itself, through one near and one far
-gateway (tools/gateway.py) with journals that sync and that don't, over loopback. `bench/gateway.py [--orders N]`.
+"""What a gateway costs: orders a second and their latency by ab, at the HTTP server itself, through one near and one
+far gateway (tools/gateway.py) with journals that sync and that don't, over loopback. `bench/gateway.py [--orders N]`.
 
 The server answers each POST with a few octets. Each row is one run of ab with so many orders under way; the rows take
 turns. Orders have no key, so each is noted and called anew."""

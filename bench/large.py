@@ -22,7 +22,12 @@ def run(words: list[str], source, sink) -> tuple[float, float, float, int]:
     begun = time.monotonic()
     child = subprocess.Popen(words, stdin=source, stdout=sink)
     _, status, used = os.wait4(child.pid, 0)
-    return time.monotonic() - begun, used.ru_utime + used.ru_stime, used.ru_maxrss * 1024 / 1e6, os.waitstatus_to_exitcode(status)
+    return (
+        time.monotonic() - begun,
+        used.ru_utime + used.ru_stime,
+        used.ru_maxrss * 1024 / 1e6,
+        os.waitstatus_to_exitcode(status),
+    )
 
 
 def measure(name: str, words: list[str], schedule: pathlib.Path, log: pathlib.Path) -> float | None:
@@ -31,7 +36,10 @@ def measure(name: str, words: list[str], schedule: pathlib.Path, log: pathlib.Pa
     for _ in range(RUNS):
         with open(schedule, "rb") as source, open(log, "wb") as sink:
             seconds, processor, memory, status = run(words, source, sink)
-        print(f"{name}: {seconds:.2f} s, {processor:.2f} s of processor, at most {memory:.0f} MB" + (f", status {status}" if status else ""))
+        print(
+            f"{name}: {seconds:.2f} s, {processor:.2f} s of processor, at most {memory:.0f} MB"
+            + (f", status {status}" if status else "")
+        )
         found.append(seconds if status == 0 else None)
     return None if None in found else min(found)
 
@@ -39,8 +47,15 @@ def measure(name: str, words: list[str], schedule: pathlib.Path, log: pathlib.Pa
 def main() -> int:
     rounds = sys.argv[2] if len(sys.argv) > 2 else "50000"
     with tempfile.TemporaryDirectory() as room:
-        schedule, plain, logs = pathlib.Path(room, "schedule"), pathlib.Path(room, "plain"), [pathlib.Path(room, it) for it in ("log", "plain.log", "older.log")]
-        subprocess.run(["rustc", "--edition", "2021", "-O", "-o", plain, pathlib.Path(__file__).with_name("plain_replay.rs")], check=True)
+        schedule, plain, logs = (
+            pathlib.Path(room, "schedule"),
+            pathlib.Path(room, "plain"),
+            [pathlib.Path(room, it) for it in ("log", "plain.log", "older.log")],
+        )
+        subprocess.run(
+            ["rustc", "--edition", "2021", "-O", "-o", plain, pathlib.Path(__file__).with_name("plain_replay.rs")],
+            check=True,
+        )
         with open(schedule, "wb") as sink:
             subprocess.run([program(), "make", rounds], stdout=sink, check=True)
         print(f"make {rounds}: {schedule.stat().st_size / 1e6:.1f} MB")
@@ -52,7 +67,10 @@ def main() -> int:
     if ours is None or theirs is None or older is None or not same:
         print("the logs differ" if not same else "a run failed")
         return 1
-    print(f"factor {ours / theirs:.2f}, of the least of each" + (f"; of the time before {ours / older:.2f}" if len(sys.argv) > 3 else ""))
+    print(
+        f"factor {ours / theirs:.2f}, of the least of each"
+        + (f"; of the time before {ours / older:.2f}" if len(sys.argv) > 3 else "")
+    )
     return 0
 
 

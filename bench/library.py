@@ -9,12 +9,13 @@ taking turns, N runs (3) each:
 - answers: requests of 100 octets, one after another for S seconds (3), each answered by 100 octets: how many a second,
   and the microseconds of processor that one takes at both ends, system calls and all;
 - 64 KiB: messages of 65,536 octets, one after another, each answered by 100 octets: how many a second, of 50 the median
-  time, and how many datagrams a message and its answer take, acknowledgements too: of the runs the least, since all that
-  the machine sends meanwhile is counted.
+  time, and how many datagrams a message and its answer take, acknowledgements too: of the runs the least, since all
+  that the machine sends meanwhile is counted.
 
 UDP asks again after 100 ms where nothing comes, and has no messages above a datagram; `same` is UDP with the very
 datagrams that two nodes exchange, acknowledgements too, and without what makes them reliable. `segments` is libdeltat
-where the system cuts and joins datagrams of one length, each such run of which counts as one. Then, in one thread with no
+where the system cuts and joins datagrams of one length, each such run of which counts as one. Then, in one thread with
+no
 socket: events of two nodes a second, where each call that sends, takes in a datagram, reads or ticks is an event. The
 last lines say how the library stands to the others, by the medians. A peer that can't be built here is left out; ends
 with 2 where the library isn't there."""
@@ -46,7 +47,11 @@ def built(folder: pathlib.Path, library: pathlib.Path) -> dict[str, str]:
     more = {"ENet": ["-lenet"], "libdeltat": ours, "segments": ours}
     found = {}
     for name, file in FILES.items():
-        ran = subprocess.run([*C, str(HERE / "peers" / file), "-o", str(folder / name), *more.get(name, [])], capture_output=True, text=True)
+        ran = subprocess.run(
+            [*C, str(HERE / "peers" / file), "-o", str(folder / name), *more.get(name, [])],
+            capture_output=True,
+            text=True,
+        )
         if ran.returncode:
             print(f"{name} isn't there: {(ran.stderr.strip().splitlines() or ['?'])[0]}", file=sys.stderr)
         else:
@@ -60,7 +65,12 @@ def asked(program: str, what: str, count: int, octets: int, seconds: float) -> t
     room = {**os.environ, "SEGMENTS": "1"} if pathlib.Path(program).name in LONG else None
     server = subprocess.Popen([program, "serve", HOST, port, "-"], stderr=subprocess.DEVNULL, env=room)
     time.sleep(0.3)
-    client = subprocess.Popen([program, "ask", HOST, port, what, str(count), str(octets), str(seconds)], stdout=subprocess.PIPE, text=True, env=room)
+    client = subprocess.Popen(
+        [program, "ask", HOST, port, what, str(count), str(octets), str(seconds)],
+        stdout=subprocess.PIPE,
+        text=True,
+        env=room,
+    )
     lines = client.stdout.read().splitlines()
     client.stdout.close()
     _, _, used = os.wait4(client.pid, 0)
@@ -73,7 +83,9 @@ def asked(program: str, what: str, count: int, octets: int, seconds: float) -> t
 
 def datagrams() -> int:
     """How many datagrams this machine has sent."""
-    names, counts = [it.split() for it in pathlib.Path("/proc/net/snmp").read_text().splitlines() if it.startswith("Udp:")]
+    names, counts = [
+        it.split() for it in pathlib.Path("/proc/net/snmp").read_text().splitlines() if it.startswith("Udp:")
+    ]
     return int(counts[names.index("OutDatagrams")])
 
 
@@ -92,7 +104,9 @@ def answers(programs: dict[str, str], runs: int, seconds: float) -> dict[str, tu
                 rates[name].append(done[0][0] / done[0][1])
                 costs[name].append(1e6 * used / done[0][0])
     for name in rates:
-        print(f"answers {name}: {numbers(rates[name])} a second; {numbers(costs[name])} us of processor each", flush=True)
+        print(
+            f"answers {name}: {numbers(rates[name])} a second; {numbers(costs[name])} us of processor each", flush=True
+        )
     return {name: (statistics.median(rates[name] or [0]), statistics.median(costs[name] or [0])) for name in rates}
 
 
@@ -109,7 +123,13 @@ def messages(programs: dict[str, str], runs: int) -> dict[str, float]:
                 sent[name].append((datagrams() - before) / MESSAGES)
     for name, found in times.items():
         least = f"; {min(sent[name]):.1f} datagrams" if sent[name] else ""
-        print(f"64 KiB {name}: {numbers([1 / it for it in found])} a second; {numbers([1e6 * it for it in found])} us each{least}", flush=True)
+        print(
+            (
+                f"64 KiB {name}: {numbers([1 / it for it in found])} a second; {numbers([1e6 * it for it in found])} us"
+                f" each{least}"
+            ),
+            flush=True,
+        )
     return {name: statistics.median(found or [0]) for name, found in times.items()}
 
 
@@ -117,7 +137,21 @@ def events(program: str, runs: int) -> None:
     for octets in (SMALL, LARGE):
         found = []
         for _ in range(runs):
-            ran = subprocess.run([program, "ask", "-", "0", "memory", str(EVENTS if octets == SMALL else EVENTS // 10), str(octets), "1"], capture_output=True, text=True, check=True)
+            ran = subprocess.run(
+                [
+                    program,
+                    "ask",
+                    "-",
+                    "0",
+                    "memory",
+                    str(EVENTS if octets == SMALL else EVENTS // 10),
+                    str(octets),
+                    "1",
+                ],
+                capture_output=True,
+                text=True,
+                check=True,
+            )
             _, count, seconds = ran.stdout.split()
             found.append(int(count) / float(seconds))
         print(f"events, requests of {octets:,} octets: {numbers(found)} a second in one thread", flush=True)

@@ -1,10 +1,10 @@
 #!/usr/bin/env python3
-"""What a turn of a node or a service costs beside what is open, and what losses and windows cost a flow, of one library or
-of two in one run. `bench/many.py [--old LIBRARY] [--most N] [--runs N] [ROW ..]`.
+"""What a turn of a node or a service costs beside what is open, and what losses and windows cost a flow, of one library
+or of two in one run. `bench/many.py [--old LIBRARY] [--most N] [--runs N] [ROW ..]`.
 
-bench/many.c is compiled against include/deltat.h and run over lib/libdeltat.so, and over LIBRARY too where one is named:
-an older one of the same interface. They take turns, and the least of the runs is shown. Two handles of one process
-exchange datagrams in memory, so neither sockets nor the system count. The rows:
+bench/many.c is compiled against include/deltat.h and run over lib/libdeltat.so, and over LIBRARY too where one is
+named: an older one of the same interface. They take turns, and the least of the runs is shown. Two handles of one
+process exchange datagrams in memory, so neither sockets nor the system count. The rows:
 
 - calls, untaken, answers, ports: a call, a reply and an arrival beside N calls that wait, N requests that the program
   hasn't taken, N answers that it hasn't taken, N ports that have a kind

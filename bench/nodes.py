@@ -90,13 +90,16 @@ def one_round(start_one, datagrams):
 def requests(path, plain):
     """The medians of a node, and of the loop: requests a second, microseconds of processor a request."""
     datagrams = [data(flow, 100 * i, i == 0) for flow in range(FLOWS) for i in range(REQUESTS)]
-    starts = (lambda client, port: node_for(path, client, port)), (lambda _, port: subprocess.Popen([plain, str(port), str(len(datagrams))]))
+    starts = (lambda client, port: node_for(path, client, port)), (
+        lambda _, port: subprocess.Popen([plain, str(port), str(len(datagrams))])
+    )
     rounds = [[one_round(it, datagrams) for it in starts] for _ in range(ROUNDS)]
     return [statistics.median(it[who][what] for it in rounds) for who in (0, 1) for what in (0, 1)]
 
 
 def rest(path, pause):
-    """What of a processor a node uses for three seconds, in percent, while datagrams come with such pauses, or none come."""
+    """What of a processor a node uses for three seconds, in percent, while datagrams come with such pauses, or none
+    come."""
     client, port = client_socket(), free_port()
     node = node_for(path, client, port)
     before, begun, sent = used(), time.monotonic(), 0
@@ -123,7 +126,12 @@ class Told:
     out again the kernel is asked what it dropped."""
 
     def __init__(self, node, ports):
-        self.first, self.last, self.counts, self.dropped = {}, {}, dict.fromkeys(("sent", "resent", "unsent"), 0), [0, 0]
+        self.first, self.last, self.counts, self.dropped = (
+            {},
+            {},
+            dict.fromkeys(("sent", "resent", "unsent"), 0),
+            [0, 0],
+        )
         for line in node.stdout:
             now, words = time.monotonic(), line.decode().split()
             word = words[2] if len(words) > 2 else ""
@@ -151,8 +159,11 @@ def tell_losses(told, ports, log):
     out, gone = sum(told.counts[it] for it in ("sent", "resent")), told.counts["unsent"]
     late = out - gone - told.dropped[1] - arrived(log)
     stood = sum(it > 0.1 for it in told.spans())
-    print(f"  (the sender sent {out} packets of {MESSAGES * 65536 // SEG}, {gone} of which didn't leave in time; the kernel dropped "
-          f"{told.dropped[1]} and {told.dropped[0]} answers; the receiver dropped {late} as late; {stood} messages of {MESSAGES} stood)")
+    print(
+        f"  (the sender sent {out} packets of {MESSAGES * 65536 // SEG}, {gone} of which didn't leave in time; the"
+        f" kernel dropped {told.dropped[1]} and {told.dropped[0]} answers; the receiver dropped {late} as late;"
+        f" {stood} messages of {MESSAGES} stood)"
+    )
 
 
 def octets(path, plain, folder):
@@ -160,7 +171,9 @@ def octets(path, plain, folder):
     nodes = []
     with log.open("wb") as lines:
         for me, other, mine, theirs, stop in ((2, 1, ports[1], ports[0], 9000), (1, 2, ports[0], ports[1], 8000)):
-            sends = [f"at {500 + 100 * i} send 1:{i}>2:20 be {'61' * 65536}" for i in range(MESSAGES)] if me == 1 else []
+            sends = (
+                [f"at {500 + 100 * i} send 1:{i}>2:20 be {'61' * 65536}" for i in range(MESSAGES)] if me == 1 else []
+            )
             text = node_script(SETUP, (me, other), (mine, theirs), [*sends, f"at {stop} stop"])
             nodes.append(start(path, text, out=subprocess.PIPE if me == 1 else lines))
         told = Told(nodes[1], ports)
@@ -189,9 +202,17 @@ def main() -> None:
         plain = sys.argv[2] if len(sys.argv) > 2 else os.path.join(folder, "plain")
         if len(sys.argv) <= 2:
             subprocess.run(["rustc", "-O", "-o", plain, pathlib.Path(__file__).with_name("plain.rs")], check=True)
-        print("requests of 100 octets a second: node %.0f (%.1f us of processor each), plain loop %.0f (%.1f us)" % tuple(requests(program(), plain)))
-        print("processor of a node: at rest %.1f %%, with a datagram each millisecond %.1f %%" % (rest(program(), None), rest(program(), 0.001)))
-        print("octets a second of messages of 65,536: two nodes %.0f, plain loop %.0f" % octets(program(), plain, folder))
+        print(
+            "requests of 100 octets a second: node %.0f (%.1f us of processor each), plain loop %.0f (%.1f us)"
+            % tuple(requests(program(), plain))
+        )
+        print(
+            "processor of a node: at rest %.1f %%, with a datagram each millisecond %.1f %%"
+            % (rest(program(), None), rest(program(), 0.001))
+        )
+        print(
+            "octets a second of messages of 65,536: two nodes %.0f, plain loop %.0f" % octets(program(), plain, folder)
+        )
 
 
 if __name__ == "__main__":

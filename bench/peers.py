@@ -12,8 +12,8 @@ milliseconds each way and so many of a hundred packets lost each way, and for ea
 Where a time is over, it says how many were answered till then. Then what the link's packets do that come once more,
 1.2 seconds later, to a server that runs on and to one that was killed and started again in between: how often the
 request is served. And a link of 20 ms each way that loses 15 of 100 packets, for 10 seconds, with a server that runs on
-and with one that is killed each 2 seconds: how many requests of new connections were served, and how many of them twice.
-`--only-served` measures these two alone.
+and with one that is killed each 2 seconds: how many requests of new connections were served, and how many of them
+twice. `--only-served` measures these two alone.
 
 Peers are PEERS below: plain UDP that asks again (what the link can do), TCP, ENet, CoAP, UDT, QUIC, two nodes, and two
 nodes of the library over its driver (`make -C lib`), which sends 16 MiB as an object. The
@@ -102,16 +102,35 @@ def built(name: str) -> Callable[[Room, Link, list[str]], list[str]]:
 
 def node(room: Room, link: Link, words: list[str]) -> list[str]:
     delay = link.delay + ADDED_DELAY + link.again
-    return [sys.executable, str(HERE / "peers" / "node.py"), room.program, str(delay), str(max(40, 2 * link.delay + 10)), *words]
+    return [
+        sys.executable,
+        str(HERE / "peers" / "node.py"),
+        room.program,
+        str(delay),
+        str(max(40, 2 * link.delay + 10)),
+        *words,
+    ]
 
 
 def library(room: Room, link: Link, words: list[str]) -> list[str]:
     delay = link.delay + ADDED_DELAY + link.again
-    return ["env", "SEGMENTS=1", f"DELAY_MS={delay:.0f}", f"RTO_MS={max(40, 2 * link.delay + 10):.0f}", str(room.folder / "library"), *words]
+    return [
+        "env",
+        "SEGMENTS=1",
+        f"DELAY_MS={delay:.0f}",
+        f"RTO_MS={max(40, 2 * link.delay + 10):.0f}",
+        str(room.folder / "library"),
+        *words,
+    ]
 
 
 def quic(room: Room, link: Link, words: list[str]) -> list[str]:
-    return [sys.executable, str(HERE / "peers" / "quic.py"), *(words[:3] if words[0] == "serve" else words), str(room.folder / "quic")]
+    return [
+        sys.executable,
+        str(HERE / "peers" / "quic.py"),
+        *(words[:3] if words[0] == "serve" else words),
+        str(room.folder / "quic"),
+    ]
 
 
 C, CXX = ["cc", "-O2", "-Wall", "-Wextra", "-Werror"], ["c++", "-std=c++17", "-O2", "-Wall", "-Wextra", "-Werror"]
@@ -125,7 +144,13 @@ PEERS = [
     Peer("ENet", [*C, "enet.c", "-o", "enet", "-lenet"], built("enet")),
     Peer("CoAP", [*C, "coap.c", "-o", "coap", "-lcoap-3-notls"], built("coap")),
     Peer("UDT", [*CXX, "udt.cc", "-o", "udt", "-ludt", "-lpthread"], built("udt")),
-    Peer("QUIC", ["sh", "-c", "command -v gtlsclient && test -x /usr/sbin/gtlsserver && command -v openssl"], quic, lacks=("answers",), tells=False),
+    Peer(
+        "QUIC",
+        ["sh", "-c", "command -v gtlsclient && test -x /usr/sbin/gtlsserver && command -v openssl"],
+        quic,
+        lacks=("answers",),
+        tells=False,
+    ),
     Peer("deltat", [], node, lacks=("16 MiB",)),
     Peer("libdeltat", [*C, f"-I{TOP / 'include'}", "library.c", *ARCHIVES, "-o", "library"], library),
 ]
@@ -141,17 +166,26 @@ def is_built(peer: Peer, room: Room) -> bool:
         print(f"{peer.name}: {error}", file=sys.stderr)
         return False
     if ran.returncode:
-        print(f"{peer.name} isn't there: {(ran.stderr.strip().splitlines() or ['a program of its is missing'])[0]}", file=sys.stderr)
+        print(
+            f"{peer.name} isn't there: {(ran.stderr.strip().splitlines() or ['a program of its is missing'])[0]}",
+            file=sys.stderr,
+        )
     return ran.returncode == 0
 
 
 def run(peer: Peer, link: Link, serve: str, ask: str, measure: tuple[str, float]) -> None:
-    """Runs the two ends over a link, by the shell. What a server complains about isn't shown: it is stopped in the midst
-    of what it does. Losses are of their own for each measure, which has a name and seconds, and the same in each run."""
+    """Runs the two ends over a link, by the shell. What a server complains about isn't shown: it is stopped in the
+    midst of what it does. Losses are of their own for each measure, which has a name and seconds, and the same in each
+    run."""
     name, seconds = measure
     settings = "".join(f"export {it}; " for it in [*peer.environment, f"AGAIN_MS={max(40, 4 * link.delay)}"])
-    commands = [["sh", "-c", f"{peer.before}; {settings}exec 2> /dev/null; {serve}"], ["sh", "-c", f"{peer.before}; {settings}sleep {UP}; {ask}"]]
-    impaired_link(commands, link, Bound(seconds + UP + 3), zlib.crc32(f"{peer.name} {link} {name}".encode()), serves=True)
+    commands = [
+        ["sh", "-c", f"{peer.before}; {settings}exec 2> /dev/null; {serve}"],
+        ["sh", "-c", f"{peer.before}; {settings}sleep {UP}; {ask}"],
+    ]
+    impaired_link(
+        commands, link, Bound(seconds + UP + 3), zlib.crc32(f"{peer.name} {link} {name}".encode()), serves=True
+    )
 
 
 def asked(peer: Peer, room: Room, link: Link, words: list[str], seconds: float) -> list[tuple[int, float]]:
@@ -204,10 +238,18 @@ def served(peer: Peer, room: Room, is_killed: bool) -> str:
     log.write_text("")
     serve = shlex.join(peer.words(room, link, ["serve", ADDRESSES[0], PORT, str(log)]))
     # a client that needs an answer before it can send with its opening packet asks twice
-    ask = shlex.join(peer.words(room, link, ["ask", ADDRESSES[0], PORT, "first", "2" if peer.environment else "1", "100", "0.8"]))
+    ask = shlex.join(
+        peer.words(room, link, ["ask", ADDRESSES[0], PORT, "first", "2" if peer.environment else "1", "100", "0.8"])
+    )
     # the first server has a session of its own, so that all of it is killed
     killed = f"setsid {serve} & first=$!; sleep {UP + KILLED_AFTER}; kill -9 -$first; wait $first; export AGAIN=1; "
-    run(peer, link, f"{killed if is_killed else ''}exec {serve}", f"{ask} > /dev/null; sleep {LINGER}", ("served", UP + LINGER + 5))
+    run(
+        peer,
+        link,
+        f"{killed if is_killed else ''}exec {serve}",
+        f"{ask} > /dev/null; sleep {LINGER}",
+        ("served", UP + LINGER + 5),
+    )
     numbers = log.read_text().split()
     return str(max((numbers.count(it) for it in set(numbers)), default=0))
 
@@ -219,8 +261,17 @@ def served_twice(peer: Peer, room: Room, is_killed: bool) -> str:
     serve = shlex.join(peer.words(room, link, ["serve", ADDRESSES[0], PORT, str(log)]))
     ask = shlex.join(peer.words(room, link, ["ask", ADDRESSES[0], PORT, "first", str(FIRSTS), "100", str(LOSSY)]))
     # (each has a session of its own, so that all of it is killed, and ends by itself after the last one)
-    starts = f"while true; do setsid timeout -s KILL {LOSSY + LINGER + 5} {serve} & it=$!; sleep {LIVES}; kill -9 -$it; wait $it; export AGAIN=1; done"
-    run(peer, link, starts if is_killed else f"exec {serve}", f"{ask} > /dev/null; sleep {LINGER}", ("lossy", LOSSY + LINGER + 2))
+    starts = (
+        f"while true; do setsid timeout -s KILL {LOSSY + LINGER + 5} {serve} & it=$!; sleep {LIVES}; kill -9 -$it; wait"
+        " $it; export AGAIN=1; done"
+    )
+    run(
+        peer,
+        link,
+        starts if is_killed else f"exec {serve}",
+        f"{ask} > /dev/null; sleep {LINGER}",
+        ("lossy", LOSSY + LINGER + 2),
+    )
     numbers = log.read_text().split()
     twice = sum(count > 1 for count in Counter(numbers).values())
     return f"{twice} of {len(set(numbers))}"
@@ -235,7 +286,10 @@ def table(head: list[str], rows: list[list[str]]) -> None:
 def measured(peers: list[Peer], networks: list[Link], room: Room, part: float) -> None:
     for link in networks:
         print(f"\n{link.delay:g} ms each way, {link.loss * 100:g} of 100 packets lost each way")
-        table(["peer", "first, ms", "answers/s", "64 KiB, ms", "16 MiB, s", "1,000 flows, s"], [row(it, room, link, part) for it in peers])
+        table(
+            ["peer", "first, ms", "answers/s", "64 KiB, ms", "16 MiB, s", "1,000 flows, s"],
+            [row(it, room, link, part) for it in peers],
+        )
 
 
 def measured_repeats(peers: list[Peer], room: Room) -> None:
@@ -261,10 +315,16 @@ def network_of(word: str) -> Link:
 def main() -> int:
     reads = argparse.ArgumentParser(description=__doc__, formatter_class=argparse.RawDescriptionHelpFormatter)
     reads.add_argument("program", nargs="?", default=str(PROGRAM))
-    reads.add_argument("--peers", nargs="+", choices=[it.name for it in PEERS], metavar="NAME", help=", ".join(it.name for it in PEERS))
-    reads.add_argument("--networks", nargs="+", type=network_of, default=[network_of(it) for it in NETWORKS], metavar="DELAY/LOSS")
+    reads.add_argument(
+        "--peers", nargs="+", choices=[it.name for it in PEERS], metavar="NAME", help=", ".join(it.name for it in PEERS)
+    )
+    reads.add_argument(
+        "--networks", nargs="+", type=network_of, default=[network_of(it) for it in NETWORKS], metavar="DELAY/LOSS"
+    )
     reads.add_argument("--only-served", action="store_true", help="only how often requests are served")
-    reads.add_argument("--part", type=float, default=1.0, metavar="P", help="the part of its seconds that each measure gets")
+    reads.add_argument(
+        "--part", type=float, default=1.0, metavar="P", help="the part of its seconds that each measure gets"
+    )
     given = reads.parse_args()
     if not os.access(given.program, os.X_OK):
         reads.error(f"there is no program {given.program}: ./build makes it")

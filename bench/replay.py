@@ -53,8 +53,11 @@ def main() -> None:
             file.flush()
             seconds, peak, status = run(program(), file.name)
         taken = flows * rounds * COUNT
-        print(f"{flows:5}  {lines:7}  {COUNT:14}  {seconds:7.2f}  {lines / seconds:8.0f}  {peak / 1e6:7.1f}  {peak / taken:6.1f}"
-              + ("" if status == 0 else f"  status {status}"))
+        print(
+            f"{flows:5}  {lines:7}  {COUNT:14}  {seconds:7.2f}  {lines / seconds:8.0f}  {peak / 1e6:7.1f} "
+            f" {peak / taken:6.1f}"
+            + ("" if status == 0 else f"  status {status}")
+        )
 
 
 if __name__ == "__main__":

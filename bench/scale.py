@@ -87,7 +87,11 @@ class Row:
             receiver, sender = nodes
             until = time.monotonic() + MOST_SECONDS
             try:
-                while sender.settled < (len(commands[0]) - sender.refused) * size and time.monotonic() < until and sender.process.poll() is None:
+                while (
+                    sender.settled < (len(commands[0]) - sender.refused) * size
+                    and time.monotonic() < until
+                    and sender.process.poll() is None
+                ):
                     time.sleep(0.1)
                     sender.look()
                 self.refused = sender.refused
@@ -104,12 +108,23 @@ class Row:
 
     @staticmethod
     def script(line: str, me: int, ports: tuple[int, int], commands: list[str]) -> str:
-        head = [line, f"me {me} first", f"local {HOST}:{ports[me - 1]}", f"peer 1 {HOST}:{ports[2 - me]} 50 0", f"route {3 - me} 1", "shelf 64", "go"]
+        head = [
+            line,
+            f"me {me} first",
+            f"local {HOST}:{ports[me - 1]}",
+            f"peer 1 {HOST}:{ports[2 - me]} 50 0",
+            f"route {3 - me} 1",
+            "shelf 64",
+            "go",
+        ]
         return "\n".join([*head, *commands, "at 600000 stop"]) + "\n"
 
 
 def of_flows(path: str, room: int, count: int) -> Row:
-    sends = [f"at {FIRST + number * 1000 // A_SECOND} send 1:{number // 50_000}>2:{number % 50_000} be {MESSAGE}" for number in range(count)]
+    sends = [
+        f"at {FIRST + number * 1000 // A_SECOND} send 1:{number // 50_000}>2:{number % 50_000} be {MESSAGE}"
+        for number in range(count)
+    ]
     return Row(path, params(64, room, room, LONG), (sends, []), len(MESSAGE) // 2)
 
 
@@ -117,7 +132,11 @@ def of_octets(path: str, flows: int, octets: int) -> Row:
     octet = "61" * PIECE
     moments = [FIRST + number * PIECE_EACH for number in range(octets // PIECE)]
     sends = [f"at {at} send 1:{flow}>2:{flow} be {octet}" for at in moments for flow in range(flows)]
-    reads = [f"at {at} read 1:{flow}>2:{flow} 65536" for at in range(FIRST, moments[-1] + 30_000, PIECE_EACH // 4) for flow in range(flows)]
+    reads = [
+        f"at {at} read 1:{flow}>2:{flow} 65536"
+        for at in range(FIRST, moments[-1] + 30_000, PIECE_EACH // 4)
+        for flow in range(flows)
+    ]
     return Row(path, params(1442, 65_536, 65_536, LONG), (sends, reads), PIECE)
 
 
@@ -129,7 +148,10 @@ def free_memory() -> int:
 
 def factors(names: str, before: list[float], after: list[float]) -> None:
     """What grew, of the sender and the receiver each."""
-    print(f"    {names}: {', '.join(f'{new / old:.2f}' if old else '-' for old, new in zip(before, after))} times as much as in the row before")
+    print(
+        f"    {names}: {', '.join(f'{new / old:.2f}' if old else '-' for old, new in zip(before, after))} times as much"
+        " as in the row before"
+    )
 
 
 def measure_flows(path: str) -> bool:
@@ -140,12 +162,21 @@ def measure_flows(path: str) -> bool:
         before: list[float] = []
         for count in FLOWS:
             if free_memory() < 2 * count * room * WANTED + (1 << 30):
-                print(f"{room:4}  {count:7}  left out: it may want {2 * count * room * WANTED / 1e9:.1f} GB of memory, and one more has to be left")
+                print(
+                    f"{room:4}  {count:7}  left out: it may want {2 * count * room * WANTED / 1e9:.1f} GB of memory,"
+                    " and one more has to be left"
+                )
                 continue
             row = of_flows(path, room, count)
             memory = [(mine - none) / count / 1024 for mine, none in zip(row.memory, empty.memory)]
             seconds = [it / count * 1e6 for it in row.seconds]
-            print(f"{room:4}  {count:7}  {memory[0]:18.2f}  {memory[1]:8.2f}  {seconds[0]:30.0f}  {seconds[1]:8.0f}{row.note()}", flush=True)
+            print(
+                (
+                    f"{room:4}  {count:7}  {memory[0]:18.2f}  {memory[1]:8.2f}  {seconds[0]:30.0f} "
+                    f" {seconds[1]:8.0f}{row.note()}"
+                ),
+                flush=True,
+            )
             if before:
                 factors("a flow's memory, a message's time", before, [*memory, *seconds])
             before, is_whole = [*memory, *seconds], is_whole and row.is_whole
@@ -160,7 +191,13 @@ def measure_octets(path: str) -> bool:
         for octets in OCTETS:
             row = of_octets(path, flows, octets)
             memory, seconds = [it / 1e6 for it in row.memory], [it / (flows * octets) * 1e6 for it in row.seconds]
-            print(f"{flows:5}  {octets:13}  {memory[0]:19.1f}  {memory[1]:8.1f}  {seconds[0]:26.3f}  {seconds[1]:8.3f}{row.note()}", flush=True)
+            print(
+                (
+                    f"{flows:5}  {octets:13}  {memory[0]:19.1f}  {memory[1]:8.1f}  {seconds[0]:26.3f} "
+                    f" {seconds[1]:8.3f}{row.note()}"
+                ),
+                flush=True,
+            )
             if before:
                 factors("all memory, an octet's time", before, [*memory, *seconds])
             before, is_whole = [*memory, *seconds], is_whole and row.is_whole

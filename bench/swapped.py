@@ -4,8 +4,6 @@ that swaps every tenth pair of datagrams, each way. Without a shelf, and with on
 `bench/swapped.py [PROGRAM [RUNS]]`."""
 import os
 import select
-import socket
-import subprocess
 import sys
 import threading
 import time
@@ -72,7 +70,9 @@ def run(path, shelf):
     link.start()
     octets = "ab" * 65536
     receiver = node_script([SETUP, *shelf], (2, 1), (ports[1], two.getsockname()[1]), ["at 9000 stop"])
-    sender = node_script([SETUP], (1, 2), (ports[0], one.getsockname()[1]), [f"at 500 send {FLOW} be {octets}", "at 8000 stop"])
+    sender = node_script(
+        [SETUP], (1, 2), (ports[0], one.getsockname()[1]), [f"at 500 send {FLOW} be {octets}", "at 8000 stop"]
+    )
     nodes = [start(path, receiver), start(path, sender)]
     log = nodes[1].stdout.read()
     nodes[0].stdout.read()

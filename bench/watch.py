@@ -11,8 +11,8 @@ were handed out twice, datagrams for each answer, and the longest queue of the r
             500 ms, with 0 and 1 % loss
   cost      one call at a time over loopback: nanoseconds of processor a datagram, of both ends
 
-The figures are of this machine under its load of now; compare the columns of one run only. Ends with 77 where there is no
-compiler or no archive."""
+The figures are of this machine under its load of now; compare the columns of one run only. Ends with 77 where there is
+no compiler or no archive."""
 import argparse
 import pathlib
 import resource
@@ -49,7 +49,9 @@ def rows(seconds: int, rate: int) -> list[Row]:
             line = {"delay": 20000, "rate": 100, "queue": queue_ms * 12500, "lose": loss}
             load = {"flows": 64, "depth": 8, "octets": 32768, "seconds": seconds}
             found.append(Row(f"line, queue {queue_ms} ms, {loss // 100} % loss", Link(line, FAR, load, after=1)))
-    found.append(Row("one call at a time", Link({"delay": 0}, QUICK, {"flows": 1, "depth": 1, "octets": 64, "seconds": seconds})))
+    found.append(
+        Row("one call at a time", Link({"delay": 0}, QUICK, {"flows": 1, "depth": 1, "octets": 64, "seconds": seconds}))
+    )
     return found
 
 
@@ -62,9 +64,11 @@ def line_of(programs: Programs, row: Row, flags: int, seed: int) -> str:
     answered, datagrams = it.client.get("answered", 0), it.counted("out")
     used = after.ru_utime + after.ru_stime - before.ru_utime - before.ru_stime
     return (
-        f"{answered / seconds:9.0f}/s  unsure {it.client.get('unsure', 0):6}  twice {it.twice:5}  "
-        f"datagrams/answer {datagrams / max(answered, 1):7.1f}  too old {it.counted('too_old'):6}  "
-        f"processor {1e9 * used / max(datagrams, 1):7.0f} ns/datagram with the relay's  ({time.monotonic() - begun:.0f} s)"
+        (
+            f"{answered / seconds:9.0f}/s  unsure {it.client.get('unsure', 0):6}  twice {it.twice:5}  datagrams/answer"
+            f" {datagrams / max(answered, 1):7.1f}  too old {it.counted('too_old'):6}  processor"
+            f" {1e9 * used / max(datagrams, 1):7.0f} ns/datagram with the relay's  ({time.monotonic() - begun:.0f} s)"
+        )
     )
 
 
@@ -84,7 +88,10 @@ def main() -> int:
                 continue
             for run in range(words.runs):
                 for name, flags in (("without", WITHOUT_WATCH), ("with", 0)):
-                    print(f"{row.name:32} {name:8} {line_of(programs, row, flags, 1000 * place + 100 * run + flags)}", flush=True)
+                    print(
+                        f"{row.name:32} {name:8} {line_of(programs, row, flags, 1000 * place + 100 * run + flags)}",
+                        flush=True,
+                    )
     return 0
 
 

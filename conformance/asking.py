@@ -41,11 +41,14 @@ class Asked:
         way = wire.Flow.read(flow)
         source, source_port, target, target_port = way.back() if kind == "ack" else way
         said = f"{kind} {self.life} {source}:{source_port}>{target}:{target_port} {number}"
-        return f"{said} {self.letters} {self.octets}" if kind == "data" else f"{said} {more[0]}" if kind == "ack" else said
+        return (
+            f"{said} {self.letters} {self.octets}" if kind == "data" else f"{said} {more[0]}" if kind == "ack" else said
+        )
 
 
 def find_targets(program: str, asked: list[Asked]) -> None:
-    """Tells the node that each goes to: a node without routes has none to it. Frames that are no Deltagram have a fault."""
+    """Tells the node that each goes to: a node without routes has none to it. Frames that are no Deltagram have a
+    fault."""
     told = heard(program, LAST_NODE, [(at + 1, it.frame) for at, it in enumerate(asked)])
     for at, it in enumerate(asked):
         word, *more = answer(told[at + 1])

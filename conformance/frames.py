@@ -47,7 +47,9 @@ def read(frame: bytes) -> str:
     fault = deltagram_fault(frame) or packet_fault(frame)
     if fault:
         return f"bad {fault}"
-    life, source, target, kind, flags, source_port, target_port, number, window = struct.unpack(">4xIIIBBHHII", frame[:30])
+    life, source, target, kind, flags, source_port, target_port, number, window = struct.unpack(
+        ">4xIIIBBHHII", frame[:30]
+    )
     said = f"{KINDS[kind]} {life} {source}:{source_port}>{target}:{target_port} {number}"
     if KINDS[kind] == "ack":
         return f"{said} {window}"

@@ -50,9 +50,24 @@ def rounds(count: int) -> bytes:
         octets = bytes((i + j) % 256 for j in range(1 + draw // 4 % 16))
         lines.append(f"send 1:10>2:20 be {octets.hex()}")
         if draw % 4 == 2:
-            lines += [f"lose {copy}", "pass 500", "tick 1", "pass 10", f"arrive {copy + 1}", "pass 10", f"arrive {copy + 2}"]
+            lines += [
+                f"lose {copy}",
+                "pass 500",
+                "tick 1",
+                "pass 10",
+                f"arrive {copy + 1}",
+                "pass 10",
+                f"arrive {copy + 2}",
+            ]
         elif draw % 4 == 3:
-            lines += ["pass 10", f"arrive {copy}", f"arrive {copy}", "pass 10", f"arrive {copy + 2}", f"arrive {copy + 1}"]
+            lines += [
+                "pass 10",
+                f"arrive {copy}",
+                f"arrive {copy}",
+                "pass 10",
+                f"arrive {copy + 2}",
+                f"arrive {copy + 1}",
+            ]
         else:
             lines += ["pass 10", f"arrive {copy}", "pass 10", f"arrive {copy + 1}"]
         copy += 3 if draw % 4 in (2, 3) else 2
@@ -173,8 +188,14 @@ def first_difference(had: bytes, wanted: bytes) -> str:
 def differs(command: list[str], case: Case, seconds: float) -> str:
     """How the answer of a command differs from that of a case; empty where it doesn't."""
     try:
-        ran = subprocess.run([*command, *case.words()], input=case.given(), stdout=subprocess.PIPE, stderr=subprocess.DEVNULL,
-                             check=False, timeout=seconds)
+        ran = subprocess.run(
+            [*command, *case.words()],
+            input=case.given(),
+            stdout=subprocess.PIPE,
+            stderr=subprocess.DEVNULL,
+            check=False,
+            timeout=seconds,
+        )
     except subprocess.TimeoutExpired:
         return f"stopped after {seconds:g} s"
     right = case.right()
@@ -218,18 +239,42 @@ def main() -> int:
     reads = argparse.ArgumentParser(description="Asks an implementation of Delta-t every case of the index.", epilog=(
         "COMMAND is run with the case's word behind it: replay, retrace, calls, audit, make N or frames. "
         "For this project's program it is conformance/deltat PATH."))
-    reads.add_argument("--kind", action="append", choices=KINDS, help="ask the cases of this kind alone; may be given again")
-    reads.add_argument("--name", default="*", metavar="PATTERN", help="ask the cases with such a name alone, as 'refused-*'")
-    reads.add_argument("--without", action="append", choices=NEEDS, default=[], help="leave out the cases that need this; may be given again")
-    reads.add_argument("--room", type=int, default=1 << 32, metavar="N", help="leave out the cases whose records hold more than N octets")
+    reads.add_argument(
+        "--kind", action="append", choices=KINDS, help="ask the cases of this kind alone; may be given again"
+    )
+    reads.add_argument(
+        "--name", default="*", metavar="PATTERN", help="ask the cases with such a name alone, as 'refused-*'"
+    )
+    reads.add_argument(
+        "--without",
+        action="append",
+        choices=NEEDS,
+        default=[],
+        help="leave out the cases that need this; may be given again",
+    )
+    reads.add_argument(
+        "--room",
+        type=int,
+        default=1 << 32,
+        metavar="N",
+        help="leave out the cases whose records hold more than N octets",
+    )
     for name, what in LIMITS.items():
-        reads.add_argument(f"--{name}", type=int, default=1 << 32, metavar="N", help=f"leave out the cases that have {what}")
+        reads.add_argument(
+            f"--{name}", type=int, default=1 << 32, metavar="N", help=f"leave out the cases that have {what}"
+        )
     reads.add_argument("--seconds", type=float, default=60, metavar="S", help="stop a run after so long (%(default)s)")
     reads.add_argument("--list", action="store_true", help="print the cases and ask none")
-    reads.add_argument("--copy", type=pathlib.Path, metavar="FOLDER", help="write the cases into a folder as plain files and ask none")
+    reads.add_argument(
+        "--copy", type=pathlib.Path, metavar="FOLDER", help="write the cases into a folder as plain files and ask none"
+    )
     reads.add_argument("command", nargs=argparse.REMAINDER, metavar="COMMAND", help="the implementation, and its words")
     given = reads.parse_args()
-    chosen = [it for it in cases() if it.kind in (given.kind or KINDS) and fnmatch.fnmatch(it.name.rsplit("/", 1)[-1], given.name)]
+    chosen = [
+        it
+        for it in cases()
+        if it.kind in (given.kind or KINDS) and fnmatch.fnmatch(it.name.rsplit("/", 1)[-1], given.name)
+    ]
     chosen = [it for it in chosen if it.room() <= given.room and not it.needs() & set(given.without)]
     limits = {name: getattr(given, name) for name in LIMITS if getattr(given, name) < 1 << 32}
     if limits:

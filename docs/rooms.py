@@ -1,6 +1,6 @@
 #!/usr/bin/env python3
-"""Draws the map of the crates, docs/pictures/rooms.svg, from crates.txt: seven rooms, the crates in each, and an arrow from
-each room to a room that it uses.
+"""Draws the map of the crates, docs/pictures/rooms.svg, from crates.txt: seven rooms, the crates in each, and an arrow
+from each room to a room that it uses.
 
 Usage: docs/rooms.py          ends with 1 where the picture differs from crates.txt, or a crate has no room or two
        docs/rooms.py write    draws it anew"""
@@ -25,24 +25,67 @@ class Room(NamedTuple):
 
 
 ROOMS = (
-    Room("Basics", "limits, times, octets, deadlines", 0, -1,
-         "dt_units dt_items dt_params dt_fingerprint dt_cases dt_timers dt_ordered"),
-    Room("A flow", "one sender, one receiver: definitions, laws, code", 1, 0,
-         "dt_layout dt_flow_model dt_flow_laws dt_send dt_recv dt_flow_tests"),
-    Room("Texts", "logs, schedules, scripts: written and read", 1, 1,
-         "dt_edges dt_reports dt_log dt_text dt_make dt_fold dt_trace dt_command dt_text_tests dt_machine dt_edges_tests"),
-    Room("A node", "all flows of a node, its links and routes", 2, 0,
-         "dt_table dt_host dt_relay dt_shelf dt_station dt_station_tests"),
-    Room("The world", "all nodes, and what happens to packets", 2, 1,
-         "dt_world_model dt_world_laws dt_calls_model dt_calls_laws"),
-    Room("The library", "what programs call, and laws of its networks", 3, 0,
-         "dt_endpoint dt_messages dt_inbox dt_service_model dt_tokens dt_open_calls dt_call_book dt_service dt_early dt_early_laws dt_exchange_tests"
-         " dt_network"
-         " dt_service_laws dt_mailbox_laws dt_watch dt_watch_laws dt_orders_model dt_registers dt_order_lanes dt_orders_octets dt_orders_turns dt_orders_laws"
-         " dt_orders_world_laws dt_orders_tests dt_c"),
-    Room("The program", "replay, node, calls, audit", 3, 1,
-         "dt_ledger dt_parts_tests dt_script dt_notes dt_world dt_scenario dt_replay dt_call_parts dt_calls dt_calls_input dt_turn dt_node dt_audit"
-         " dt_audit_laws dt_replay_audit dt_top dt_trial dt_top_tests deltat deltat_tests"),
+    Room(
+        "Basics",
+        "limits, times, octets, deadlines",
+        0,
+        -1,
+        "dt_units dt_items dt_params dt_fingerprint dt_cases dt_timers dt_ordered",
+    ),
+    Room(
+        "A flow",
+        "one sender, one receiver: definitions, laws, code",
+        1,
+        0,
+        "dt_layout dt_flow_model dt_flow_laws dt_send dt_recv dt_flow_tests",
+    ),
+    Room(
+        "Texts",
+        "logs, schedules, scripts: written and read",
+        1,
+        1,
+        (
+            "dt_edges dt_reports dt_log dt_text dt_make dt_fold dt_trace dt_command dt_text_tests dt_machine"
+            " dt_edges_tests"
+        ),
+    ),
+    Room(
+        "A node",
+        "all flows of a node, its links and routes",
+        2,
+        0,
+        "dt_table dt_host dt_relay dt_shelf dt_station dt_station_tests",
+    ),
+    Room(
+        "The world",
+        "all nodes, and what happens to packets",
+        2,
+        1,
+        "dt_world_model dt_world_laws dt_calls_model dt_calls_laws",
+    ),
+    Room(
+        "The library",
+        "what programs call, and laws of its networks",
+        3,
+        0,
+        (
+            "dt_endpoint dt_messages dt_inbox dt_service_model dt_tokens dt_open_calls dt_call_book dt_service dt_early"
+            " dt_early_laws dt_exchange_tests dt_network dt_service_laws dt_mailbox_laws dt_watch dt_watch_laws"
+            " dt_orders_model dt_registers dt_order_lanes dt_orders_octets dt_orders_turns dt_orders_laws"
+            " dt_orders_world_laws dt_orders_tests dt_c"
+        ),
+    ),
+    Room(
+        "The program",
+        "replay, node, calls, audit",
+        3,
+        1,
+        (
+            "dt_ledger dt_parts_tests dt_script dt_notes dt_world dt_scenario dt_replay dt_call_parts dt_calls"
+            " dt_calls_input dt_turn dt_node dt_audit dt_audit_laws dt_replay_audit dt_top dt_trial dt_top_tests deltat"
+            " deltat_tests"
+        ),
+    ),
 )
 WIDTH, MARGIN, GAP, LINE = 960, 20, 56, 18
 HALF = (WIDTH - 2 * MARGIN - GAP) // 2
@@ -123,7 +166,9 @@ def arrow(upper: Box, lower: Box, place: int) -> str:
         x, to = (upper.x + upper.width, lower.x) if upper.x < lower.x else (upper.x, lower.x + lower.width)
         return f'<path class="a" d="M{x} {y} H{to}"/>'
     x = min(max(lower.middle(), upper.x + 30), upper.x + upper.width - 30) if lower.width > HALF else lower.middle()
-    start = upper.middle() + (0 if lower.width > HALF else 40 * (1 if lower.x > upper.x else -1 if lower.x < upper.x else 0))
+    start = upper.middle() + (
+        0 if lower.width > HALF else 40 * (1 if lower.x > upper.x else -1 if lower.x < upper.x else 0)
+    )
     x = start if lower.width > HALF else x + 14 * place
     return f'<path class="a" d="M{start} {upper.y + upper.height} L{x} {lower.y}"/>'
 
@@ -131,7 +176,8 @@ def arrow(upper: Box, lower: Box, place: int) -> str:
 STYLE = """<style>
   text { font: 13px sans-serif; fill: #1c2733 }
   .n { font: bold 16px sans-serif } .c { font: 12px monospace; fill: #31475c } .s { fill: #44586b }
-  rect { fill: #f3f7fb; stroke: #5b7a99; stroke-width: 1.5 } .a { stroke: #5b7a99; stroke-width: 1.8; fill: none; marker-end: url(#h) }
+  rect { fill: #f3f7fb; stroke: #5b7a99; stroke-width: 1.5 }
+  .a { stroke: #5b7a99; stroke-width: 1.8; fill: none; marker-end: url(#h) }
   @media (prefers-color-scheme: dark) {
     text { fill: #e6edf3 } .c { fill: #b9cbdc } .s { fill: #a9bccd }
     rect { fill: #17212b; stroke: #7d9cba } .a { stroke: #7d9cba } #h path { fill: #7d9cba }
@@ -159,7 +205,9 @@ def picture(found: dict[str, list[str]]) -> str:
         made.append(f'<text x="{box.x + 14}" y="{box.y + 24}"><tspan class="n">{room.name}</tspan>'
                     f'<tspan class="s" dx="10">{room.says}</tspan></text>')
         for place, line in enumerate(lines_of(room)):
-            made.append(f'<text class="c" x="{box.x + 14}" y="{box.y + 48 + LINE * place}" xml:space="preserve">{line}</text>')
+            made.append(
+                f'<text class="c" x="{box.x + 14}" y="{box.y + 48 + LINE * place}" xml:space="preserve">{line}</text>'
+            )
     return "\n".join([*made, "</svg>", ""])
 
 

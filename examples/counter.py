@@ -5,8 +5,8 @@ No message is added twice, whatever the network repeats, and who sent it needs n
     examples/counter.py
     printf 'apples 3\\npears 5\\napples 4\\n' | tools/dtcat.py 1@4001 2@4002 --linger 1
 
-It is node 2 on port 4002, for node 1 on port 4001. By its state folder, ~/.local/state/deltat-counter/2, it is silent at
-first if it ran less than half a second before."""
+It is node 2 on port 4002, for node 1 on port 4001. By its state folder, ~/.local/state/deltat-counter/2, it is silent
+at first if it ran less than half a second before."""
 import asyncio
 import collections
 import pathlib

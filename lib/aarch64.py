@@ -44,8 +44,8 @@ def build() -> ModuleType:
 
 
 def words(out: pathlib.Path, target: str, tools: pathlib.Path | None = None) -> list[str]:
-    """What rattle is called with on the library, as `./build` calls it, but for the target and, where they are named, the
-    tools that compile what is proved. The libraries below it are proved first."""
+    """What rattle is called with on the library, as `./build` calls it, but for the target and, where they are named,
+    the tools that compile what is proved. The libraries below it are proved first."""
     builds = build()
     crates, toolchain = builds.Crates(TOP), builds.Toolchain()
     subprocess.run([TOP / "build", "--only", *crates.below[CRATE]], check=True)

@@ -1,14 +1,16 @@
 #!/usr/bin/env python3
-"""Makes an UNPROVED archive of the library, in a minute or two, so that C, bindings and tests can be tried before the proofs.
+"""Makes an UNPROVED archive of the library, in a minute or two, so that C, bindings and tests can be tried before the
+proofs.
 
     lib/unproved.py OUT.a [--kept FOLDER]
     make -C lib ARCHIVE=/path/of/OUT.a
 
 Nothing is proved of what it makes, and each call has the checks that `rt try` adds, so it is slower than the proved
-archive: never give it to a user, and take no figure from it without saying so. `./build --only dt_c` makes the proved one.
+archive: never give it to a user, and take no figure from it without saying so. `./build --only dt_c` makes the proved
+one.
 
-`rt try` compiles programs only. So crates/dt_c is copied, and the copy becomes a program whose main names each export. The
-kit is copied too, by links, with a clang that keeps the module which it is given. The exports of that module become
+`rt try` compiles programs only. So crates/dt_c is copied, and the copy becomes a program whose main names each export.
+The kit is copied too, by links, with a clang that keeps the module which it is given. The exports of that module become
 global, C functions with the declarations of include/deltat.h call them, and all else becomes local to the archive.
 --kept FOLDER keeps the copies and the modules there, to look at.
 
@@ -35,7 +37,10 @@ DECLARED = re.compile(r"([A-Za-z_][\w \n*]*?)\b(dt_\w+)\s*\(([^()]*)\)\s*;")
 # an export's name in the module: the crate, the file, the function
 MANGLED = r'@"' + CRATE + r'::\w+::(dt_\w+)"'
 # as the kit itself compiles a module, but for a shared library
-COMPILE = "-march=x86-64 -mllvm -no-trap-after-noreturn -mllvm -trap-unreachable -ffunction-sections -fdata-sections -O1 -fPIC"
+COMPILE = (
+    "-march=x86-64 -mllvm -no-trap-after-noreturn -mllvm -trap-unreachable -ffunction-sections -fdata-sections -O1"
+    " -fPIC"
+)
 
 
 class Failed(Exception):
@@ -79,7 +84,11 @@ def program(library: str, found: list[Export]) -> str:
         "use std::alloc::Global;",
         "use std::process::ExitCode;",
         *(f"use crate::{it.module}::{it.name};" for it in found),
-        *(f"use crate::{module}::{{{names}}};" for module, names in PUBLIC.findall(library) if f"pub use {module}" not in library),
+        *(
+            f"use crate::{module}::{{{names}}};"
+            for module, names in PUBLIC.findall(library)
+            if f"pub use {module}" not in library
+        ),
         "#[derive(Drop)]\nstruct Everything<'a> {", *fields, "}",
         "fn all(e: Everything<'_>) {", *(it.call() for it in found), "}",
         "fn main(rt: HostRuntime) -> ExitCode {",
@@ -130,7 +139,9 @@ def module(found: list[Export], room: pathlib.Path) -> pathlib.Path:
     library = folder / "src" / "lib.rt"
     (folder / "src" / "main.rt").write_text(program(library.read_text(), found))
     library.unlink()
-    ran = subprocess.run([str(copied_kit(kit(), room) / "bin" / "rt"), "try"], cwd=folder, capture_output=True, text=True)
+    ran = subprocess.run(
+        [str(copied_kit(kit(), room) / "bin" / "rt"), "try"], cwd=folder, capture_output=True, text=True
+    )
     if ran.returncode or not (room / "module.bc").exists():
         raise Failed(f"rt try: {(ran.stdout + ran.stderr)[-3000:]}")
     return room / "module.bc"
@@ -140,7 +151,9 @@ def thunks(header: str, text: str) -> str:
     """C functions with the header's declarations over those of the module, which have `try_` before their names. A
     function whose answer is a struct takes where to write it first."""
     plain = re.sub(r"^\s*#.*$", " ", re.sub(r"/\*.*?\*/", " ", header, flags=re.DOTALL), flags=re.MULTILINE)
-    there = {name: kind.split()[-1] for kind, name in re.findall(r"^define ([^@\n]*)@try_(dt_\w+)\(", text, re.MULTILINE)}
+    there = {
+        name: kind.split()[-1] for kind, name in re.findall(r"^define ([^@\n]*)@try_(dt_\w+)\(", text, re.MULTILINE)
+    }
     made = ['#include "deltat.h"']
     for answer, name, inputs in DECLARED.findall(plain):
         if name not in there:
@@ -149,7 +162,10 @@ def thunks(header: str, text: str) -> str:
         names = re.findall(r"(\w+)(?=,|$)", inputs) if inputs != "void" else []
         by_place = there.pop(name) == "void" and answer != "void"
         first = [f"{answer} *out_"] if by_place else []
-        made.append(f"extern {'void' if by_place else answer} try_{name}({', '.join(first + ([inputs] if names else [])) or 'void'});")
+        made.append(
+            "extern"
+            f" {'void' if by_place else answer} try_{name}({', '.join(first + ([inputs] if names else [])) or 'void'});"
+        )
         call = f"try_{name}({', '.join((['&r_'] if by_place else []) + names)});"
         body = f"{answer} r_; {call} return r_;" if by_place else f"{'' if answer == 'void' else 'return '}{call}"
         made.append(f"{answer} {name}({inputs}) {{ {body} }}")
@@ -163,10 +179,23 @@ def run(*words: str | pathlib.Path) -> None:
 
 
 def link(bitcode: pathlib.Path, room: pathlib.Path, out: pathlib.Path) -> None:
-    """Makes the archive of the module: what isn't an export is local, and the three functions for memory are asked for."""
+    """Makes the archive of the module: what isn't an export is local, and the three functions for memory are asked
+    for."""
     tools = kit() / "toolchain"
     clang = [tools / "bin" / "clang", "--target=x86_64-unknown-linux-gnu", f"--sysroot={tools}"]
-    run(*clang, "-S", "-emit-llvm", "-Xclang", "-disable-llvm-passes", "-O0", "-x", "ir", bitcode, "-o", room / "module.ll")
+    run(
+        *clang,
+        "-S",
+        "-emit-llvm",
+        "-Xclang",
+        "-disable-llvm-passes",
+        "-O0",
+        "-x",
+        "ir",
+        bitcode,
+        "-o",
+        room / "module.ll"
+    )
     text = (room / "module.ll").read_text().replace("define i32 @main()", "define internal i32 @main()")
     text = re.sub(r"define internal ([^@\n]*)" + MANGLED + r"\(", r"define \1@try_\2(", text)
     text = re.sub(MANGLED, r"@try_\1", text)

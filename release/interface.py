@@ -6,8 +6,8 @@
     release/interface.py rust       prints the Rust declarations
 
 The header is the source. Made from it: the Rust declarations (RUST), the ctypes tables (PYTHON), the places of fields
-that tests/library/layout.c has a compiler check, the names in lib/names.c, and the enums of include/deltat.hpp; and from
-include/deltat_udp.h the Rust declarations (RUST_UDP) and the ctypes tables of the driver (PYTHON_UDP).
+that tests/library/layout.c has a compiler check, the names in lib/names.c, and the enums of include/deltat.hpp; and
+from include/deltat_udp.h the Rust declarations (RUST_UDP) and the ctypes tables of the driver (PYTHON_UDP).
 release/manpage.py takes the calls of libdeltat(3) from here, and tests/library.py the loops. Compared with it:
 DELTAT_VERSION with VERSION, and the exports and structs of crates/dt_c, name by name and type by type. Ends with 1 if
 something differs, and with 2 if the words are wrong or the header isn't understood.
@@ -408,7 +408,9 @@ def rust_struct(it: Struct) -> Iterator[str]:
     yield from wrapped(rust_words(it.says), "///")
     # (a comparison of pointers or floating numbers would surprise)
     names = [field.type.name for field in it.fields]
-    equal = not any(one.type.is_pointer or one.type.arguments is not None for one in it.fields) and "double" not in names
+    equal = (
+        not any(one.type.is_pointer or one.type.arguments is not None for one in it.fields) and "double" not in names
+    )
     yield "#[repr(C)]"
     yield f"#[derive(Clone, Copy, Debug{', PartialEq, Eq, Hash' if equal else ''})]"
     yield f"pub struct {it.name} {{"
@@ -482,13 +484,18 @@ def rust() -> str:
 
 def rust_udp() -> str:
     """The same of the driver. Types of deltat.h are those of the crate deltat-sys."""
-    lines = [f"// {MADE_BY.replace('deltat.h', 'deltat_udp.h')}.",
-             "//! What libdeltat-udp exports, as include/deltat_udp.h has it: names, duties and statuses are those of C.",
-             "#![allow(non_camel_case_types)]", "",
-             "use core::ffi::c_void;",
-             "use core::marker::{PhantomData, PhantomPinned};",
-             "use std::os::raw::{c_char, c_int}; // in core since Rust 1.64", "",
-             "use deltat_sys::*;", ""]
+    lines = [
+        f"// {MADE_BY.replace('deltat.h', 'deltat_udp.h')}.",
+        "//! What libdeltat-udp exports, as include/deltat_udp.h has it: names, duties and statuses are those of C.",
+        "#![allow(non_camel_case_types)]",
+        "",
+        "use core::ffi::c_void;",
+        "use core::marker::{PhantomData, PhantomPinned};",
+        "use std::os::raw::{c_char, c_int}; // in core since Rust 1.64",
+        "",
+        "use deltat_sys::*;",
+        "",
+    ]
     lines += rust_constants(udp_header())
     return "\n".join([*lines, *rust_body(udp_header())]) + "\n"
 
@@ -506,7 +513,8 @@ PYTHON_ENUMS = {"dt_status_code": "Status", "dt_invalid": "InvalidReason"}
 
 
 def python_name(name: str) -> str:
-    """The name of a struct or an enum: those of the driver are in a module of their own, which has the others as `_c`."""
+    """The name of a struct or an enum: those of the driver are in a module of their own, which has the others as
+    `_c`."""
     return camel(name.removeprefix("dt_udp_")) if name.startswith("dt_udp_") else camel(name)
 
 
@@ -515,7 +523,9 @@ def python_type(it: Type, of: str = "") -> str:
     if it.is_pointer and it.name == "char" and it.is_const:
         return "ctypes.c_char_p"
     # octets and handles: what is handed over has any type
-    if it.is_pointer and (it.name in ("uint8_t", "char", "void", "dt_udp", "dt_udp_state") or it.name in header().opaque):
+    if it.is_pointer and (
+        it.name in ("uint8_t", "char", "void", "dt_udp", "dt_udp_state") or it.name in header().opaque
+    ):
         return "ctypes.c_void_p"
     if it.name in PYTHON_TYPES:
         name = f"ctypes.{PYTHON_TYPES[it.name]}"
@@ -700,7 +710,13 @@ def cplus() -> str:
 
 
 MADE: dict[Path, Callable[[], str]] = {
-    RUST: rust, RUST_UDP: rust_udp, PYTHON: python, PYTHON_UDP: python_udp, LAYOUT: layout_c, NAMES: names_c, CPLUS: cplus,
+    RUST: rust,
+    RUST_UDP: rust_udp,
+    PYTHON: python,
+    PYTHON_UDP: python_udp,
+    LAYOUT: layout_c,
+    NAMES: names_c,
+    CPLUS: cplus,
 }
 
 

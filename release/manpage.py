@@ -38,7 +38,14 @@ WIDTH = 79
 
 def escaped(text: str) -> str:
     """Text as roff takes it: nothing of it is a request."""
-    text = text.replace("\\", "\\e").replace("-", "\\-").replace("'", "\\(aq").replace("^", "\\(ha").replace("~", "\\(ti").replace("`", "\\(ga")
+    text = (
+        text.replace("\\", "\\e")
+        .replace("-", "\\-")
+        .replace("'", "\\(aq")
+        .replace("^", "\\(ha")
+        .replace("~", "\\(ti")
+        .replace("`", "\\(ga")
+    )
     return "\\&" + text if text.startswith((".", "\\(aq")) else text
 
 
@@ -132,7 +139,9 @@ def tidy(requests: list[str]) -> Iterator[str]:
     for number, it in enumerate(requests):
         before = requests[number - 1] if number else ""
         behind = requests[number + 1] if number + 1 < len(requests) else ".SH"
-        if it == ".PP" and (before.startswith((".SH", ".SS")) or behind.startswith((".PP", ".SH", ".SS", ".IP", ".TP"))):
+        if it == ".PP" and (
+            before.startswith((".SH", ".SS")) or behind.startswith((".PP", ".SH", ".SS", ".IP", ".TP"))
+        ):
             continue
         yield it
 

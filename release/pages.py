@@ -12,7 +12,9 @@ LINK = re.compile(r"\[([^\]]+)\]\((?!https?:)([^)#]+)(?:#[^)]*)?\)")
 
 def plain(page: Path) -> str:
     """The text of a page, with the links that lead somewhere."""
-    return LINK.sub(lambda it: it[0] if (page.parent / it[2]).exists() else f"{it[1]} (in the repository)", page.read_text())
+    return LINK.sub(
+        lambda it: it[0] if (page.parent / it[2]).exists() else f"{it[1]} (in the repository)", page.read_text()
+    )
 
 
 def main(words: list[str]) -> int:

@@ -3,8 +3,8 @@
 there is no lib/libdeltat-aarch64.a, no aarch64-linux-gnu-gcc or no qemu-aarch64, and with 1 where one of these fails:
 
 - the programs of tests/library.py: an exchange, each request for memory that fails in turn, 100,000 random datagrams;
-- the same log: of 300 inputs the driver of tests/driver.py writes there what `retrace` writes here. It is left out where
-  there is no program.
+- the same log: of 300 inputs the driver of tests/driver.py writes there what `retrace` writes here. It is left out
+  where there is no program.
 
 In tests/all: PROGRAM, 300 s."""
 import os
@@ -25,7 +25,13 @@ PROGRAMS = {"exchange": [], "each_failure": [], "strangers": ["datagrams", "1000
 
 def ran(name: str, command: list[str]) -> bool:
     done = subprocess.run(command, capture_output=True, text=True, env=SETTINGS, timeout=250)
-    print(f"{name}: {'ok' if done.returncode == 0 else f'FAILED with {done.returncode}'}: {(done.stdout + done.stderr).strip().splitlines()[-1]}", flush=True)
+    print(
+        (
+            f"{name}: {'ok' if done.returncode == 0 else f'FAILED with {done.returncode}'}:"
+            f" {(done.stdout + done.stderr).strip().splitlines()[-1]}"
+        ),
+        flush=True,
+    )
     return done.returncode == 0
 
 
@@ -39,10 +45,37 @@ def main() -> int:
     with tempfile.TemporaryDirectory() as folder:
         for name, words in PROGRAMS.items():
             built = str(pathlib.Path(folder, name))
-            subprocess.run([COMPILER, "-std=gnu99", "-O1", "-Wall", "-Wextra", "-Werror", f"-I{TOP / 'include'}", TOP / "tests" / "library" / f"{name}.c", LIBRARY, "-o", built], check=True)
+            subprocess.run(
+                [
+                    COMPILER,
+                    "-std=gnu99",
+                    "-O1",
+                    "-Wall",
+                    "-Wextra",
+                    "-Werror",
+                    f"-I{TOP / 'include'}",
+                    TOP / "tests" / "library" / f"{name}.c",
+                    LIBRARY,
+                    "-o",
+                    built,
+                ],
+                check=True,
+            )
             right = ran(name, [EMULATOR, built, *words]) and right
     if os.access(program(), os.X_OK):
-        words = [sys.executable, str(TOP / "tests" / "driver.py"), program(), "--count", "300", "--library", str(LIBRARY), "--compiler", COMPILER, "--under", EMULATOR]
+        words = [
+            sys.executable,
+            str(TOP / "tests" / "driver.py"),
+            program(),
+            "--count",
+            "300",
+            "--library",
+            str(LIBRARY),
+            "--compiler",
+            COMPILER,
+            "--under",
+            EMULATOR,
+        ]
         right = ran("driver", words) and right
     else:
         print("driver: there is no program: ./build")

@@ -91,7 +91,11 @@ def links(path: str) -> bool:
         peer.settimeout(0.1)
         sent.append(int.from_bytes(peer.recv(9000)[12:16], "big"))
     print(f"links: took {found}, sent to {sent}")
-    return status == 0 and found == [f"{number} {number:02x}" for number in numbers] and sent == [number + 2 for number in numbers]
+    return (
+        status == 0
+        and found == [f"{number} {number:02x}" for number in numbers]
+        and sent == [number + 2 for number in numbers]
+    )
 
 
 def waits(path: str) -> bool:
@@ -101,7 +105,12 @@ def waits(path: str) -> bool:
     kept = steps(readings(trace))
     print(f"waits: {kept} ms")
     wanted = [1000, 1000, 500]
-    if status != 0 or len(kept) != len(wanted) or not all(0 <= it - want <= LATE for it, want in zip(kept[:2], wanted)) or not 2500 <= sum(kept) <= 2500 + LATE:
+    if (
+        status != 0
+        or len(kept) != len(wanted)
+        or not all(0 <= it - want <= LATE for it, want in zip(kept[:2], wanted))
+        or not 2500 <= sum(kept) <= 2500 + LATE
+    ):
         return False
     node = start(path, script(1, 2, port, peer.getsockname()[1], ["at 1500 stop"]), word="trace")
     time.sleep(0.4)

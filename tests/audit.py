@@ -168,10 +168,17 @@ def logs():
 def main():
     path, tried, wrong = program(), 0, 0
     for name, log, whole in logs():
-        run = subprocess.run([path, "audit"], input="".join(f"{line}\n" for line in log), capture_output=True, text=True, check=False)
+        run = subprocess.run(
+            [path, "audit"], input="".join(f"{line}\n" for line in log), capture_output=True, text=True, check=False
+        )
         right = verdict(log)
         tried += 1
-        if run.stdout != right + "\n" or run.returncode != (0 if right == "audit yes" else 3) or whole and right != "audit yes":
+        if (
+            run.stdout != right + "\n"
+            or run.returncode != (0 if right == "audit yes" else 3)
+            or whole
+            and right != "audit yes"
+        ):
             print(f"{name}: {run.stdout.strip()} (status {run.returncode}) where the rule says {right}")
             wrong += 1
     print(f"{tried - wrong} of {tried} logs have their verdicts")

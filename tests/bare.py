@@ -4,9 +4,11 @@
 
 - wants: what the library asks of a program are the six functions of examples/bare, and nothing else.
 - arena: what a node, a link and a flow take of an arena is what docs/field.md says (tests/bare/arena.c).
-- here: the image runs on this processor, without a C library: all octets that arrived are right, and all memory comes back.
-- aarch64: the same octets, datagrams and messages on a bare Cortex-A53 under qemu-system-aarch64. Left out, with a line,
-  where there is no lib/libdeltat-aarch64-bare.a (lib/aarch64.py --without-heap proves it, in minutes) or a tool is missing.
+- here: the image runs on this processor, without a C library: all octets that arrived are right, and all memory comes
+  back.
+- aarch64: the same octets, datagrams and messages on a bare Cortex-A53 under qemu-system-aarch64. Left out, with a
+  line, where there is no lib/libdeltat-aarch64-bare.a (lib/aarch64.py --without-heap proves it, in minutes) or a tool
+  is missing.
 
 Ends with 77 where there is no proved archive or no compiler.
 
@@ -36,15 +38,52 @@ ARENAS = {
     (4096, 128, 1, 100): (19_356, 27_038, 27_714, 57_296),
     (65536, 1024, 1, 1024): (19_356, 334_928, 220_560, 597_536),
 }
-COMPILE = ["-std=c11", "-O2", "-Wall", "-Wextra", "-Werror", "-ffreestanding", "-fno-stack-protector", "-fno-tree-loop-distribute-patterns", "-nostdlib", "-static",
-           "-fno-pie", "-no-pie", f"-I{TOP / 'include'}", "-Wl,--gc-sections", "-Wl,--build-id=none"]
-EMULATOR = ["qemu-system-aarch64", "-M", "virt", "-cpu", "cortex-a53", "-m", "64", "-nic", "none", "-display", "none", "-monitor", "none", "-serial", "none",
-            "-semihosting-config", "enable=on,target=native,chardev=s", "-chardev", "stdio,id=s", "-kernel"]
+COMPILE = [
+    "-std=c11",
+    "-O2",
+    "-Wall",
+    "-Wextra",
+    "-Werror",
+    "-ffreestanding",
+    "-fno-stack-protector",
+    "-fno-tree-loop-distribute-patterns",
+    "-nostdlib",
+    "-static",
+    "-fno-pie",
+    "-no-pie",
+    f"-I{TOP / 'include'}",
+    "-Wl,--gc-sections",
+    "-Wl,--build-id=none",
+]
+EMULATOR = [
+    "qemu-system-aarch64",
+    "-M",
+    "virt",
+    "-cpu",
+    "cortex-a53",
+    "-m",
+    "64",
+    "-nic",
+    "none",
+    "-display",
+    "none",
+    "-monitor",
+    "none",
+    "-serial",
+    "none",
+    "-semihosting-config",
+    "enable=on,target=native,chardev=s",
+    "-chardev",
+    "stdio,id=s",
+    "-kernel",
+]
 
 
 def wants(archive: pathlib.Path) -> bool:
     """Whether the members of the archive ask for no more than the six functions and each other's."""
-    rows = subprocess.run(["nm", "--format=posix", str(archive)], capture_output=True, text=True, check=True).stdout.splitlines()
+    rows = subprocess.run(
+        ["nm", "--format=posix", str(archive)], capture_output=True, text=True, check=True
+    ).stdout.splitlines()
     names = [it.split() for it in rows if len(it.split()) >= 2]
     asked = {it[0] for it in names if it[1] == "U"} - {it[0] for it in names if it[1] in "TtWDBR"}
     print("the library wants:", ", ".join(sorted(asked)))
@@ -84,7 +123,9 @@ def is_right(found: dict[str, int]) -> bool:
 
 def main() -> int:
     reads = argparse.ArgumentParser(description=__doc__, formatter_class=argparse.RawDescriptionHelpFormatter)
-    reads.add_argument("--archive", type=pathlib.Path, default=ARCHIVE, help="the proved library for this processor (%(default)s)")
+    reads.add_argument(
+        "--archive", type=pathlib.Path, default=ARCHIVE, help="the proved library for this processor (%(default)s)"
+    )
     reads.add_argument("--aarch64", type=pathlib.Path, default=AARCH64, help="that for aarch64 (%(default)s)")
     given = reads.parse_args()
     if not given.archive.exists():
@@ -99,7 +140,8 @@ def main() -> int:
         good = is_right(here) and good
         missing = [it for it in ("aarch64-linux-gnu-gcc", "qemu-system-aarch64") if not shutil.which(it)]
         if missing or not given.aarch64.exists():
-            print(f"aarch64: {f'there is no {missing[0]}' if missing else f'{given.aarch64} is not there: lib/aarch64.py --without-heap'}")
+            absent = f"{given.aarch64} is not there: lib/aarch64.py --without-heap"
+            print(f"aarch64: {f'there is no {missing[0]}' if missing else absent}")
             return 0 if good else 1
         built("aarch64-linux-gnu-gcc", given.aarch64, folder / "there", "-T", str(BARE / "virt.ld"))
         there = said([*EMULATOR, str(folder / "there")])

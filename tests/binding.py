@@ -3,7 +3,8 @@
 `tests/binding.py [LIBRARY] [TEST ..]`; LIBRARY is lib/libdeltat.so.2 where none is named. Ends with 1 where one of
 these fails, and with 77 where there is no library:
 
-- refusals: what is out of range, too long, for no one or too early is refused by its own exception, and nothing is sent.
+- refusals: what is out of range, too long, for no one or too early is refused by its own exception, and nothing is
+  sent.
 - whole: a message in parts that is longer than any send comes whole; one that is too long is dropped and counted; what
   is lost between two is told as a gap, once.
 - simulated: 300 random runs of two nodes in memory, over links that drop, repeat and reorder, with restarts: each
@@ -16,8 +17,9 @@ these fails, and with 77 where there is no library:
 - asynchronous: in a loop of asyncio a service answers four clients' messages over such a link, a sender waits for room
   while its messages aren't read, and who waits when it is closed is told.
 - users: of two calls under way each ends with what it was given, in another order than they were made.
-- services: a service of two ports answers 30 calls over such a link, each once; a call that nobody replies to is unsure;
-  a service is told of a reply to a client that is away; 100 calls at once in a loop of asyncio are answered, and one that waits when it is closed is unsure.
+- services: a service of two ports answers 30 calls over such a link, each once; a call that nobody replies to is
+  unsure; a service is told of a reply to a client that is away; 100 calls at once in a loop of asyncio are answered,
+  and one that waits when it is closed is unsure.
 - examples: examples/echo.py asks itself, and examples/echo.c, which is compiled first, at the ports that they name; and
   tools/dtcat.py asks examples/counter.py and examples/counter.c.
 
@@ -58,7 +60,14 @@ SHORT_RECORD = 1_500_000
 
 
 def node_of(number: int, other: int, again: bool, at: int) -> deltat.Node:
-    return deltat.Node(number, PARAMS, [deltat.Link(1, CHARGE)], {other: 1}, start=deltat.Start.AGAIN if again else deltat.Start.FIRST, at=at)
+    return deltat.Node(
+        number,
+        PARAMS,
+        [deltat.Link(1, CHARGE)],
+        {other: 1},
+        start=deltat.Start.AGAIN if again else deltat.Start.FIRST,
+        at=at,
+    )
 
 
 def refused(error: type[Exception], call: object, *words: object, **named: object) -> bool:
@@ -73,7 +82,15 @@ def refused(error: type[Exception], call: object, *words: object, **named: objec
 def refusals() -> bool:
     node, flow = node_of(1, 2, False, 0), deltat.Flow(1, 10, 2, 20)
     right = [
-        refused(deltat.InvalidArgument, deltat.Node, 1, deltat.Params(1, 3000, 200, 500, 800, 100, 4096, 4096, 512), [], {}, start=deltat.Start.FIRST),
+        refused(
+            deltat.InvalidArgument,
+            deltat.Node,
+            1,
+            deltat.Params(1, 3000, 200, 500, 800, 100, 4096, 4096, 512),
+            [],
+            {},
+            start=deltat.Start.FIRST,
+        ),
         refused(deltat.InvalidArgument, deltat.Node, 1 << 32, PARAMS, [], {}, start=deltat.Start.FIRST),
         refused(deltat.InvalidArgument, node.send, flow, b"", at=1),
         refused(deltat.InvalidArgument, node.send, flow, bytes(65537), at=1),
@@ -95,7 +112,14 @@ def refusals() -> bool:
     right.append(frame.to == 2 and b"in time" in frame.octets)
     right.append(node_of(2, 1, False, 0).receive(1, frame.octets, waited_ms=1000, at=5) is deltat.Status.EXPIRED)
     guarded = node_of(2, 1, False, 0)
-    for ports, flows, status in (([21], 9, "BLOCKED"), ([20, 21], 0, "BLOCKED"), ([20], 1, "OK"), ([20], 0, "OK"), ([], 9, "BLOCKED"), (None, 0, "OK")):
+    for ports, flows, status in (
+        ([21], 9, "BLOCKED"),
+        ([20, 21], 0, "BLOCKED"),
+        ([20], 1, "OK"),
+        ([20], 0, "OK"),
+        ([], 9, "BLOCKED"),
+        (None, 0, "OK"),
+    ):
         guarded.set_guard(ports, flows)
         right.append(guarded.receive(1, frame.octets, at=5) is deltat.Status[status])
     right.append(guarded.blocked_counts() == (2, 1))
@@ -106,21 +130,41 @@ def refusals() -> bool:
     right.append(lonely.flow_counts(flow) is None)
     lonely.count_flow(flow)
     lonely.send(flow, b"nowhere", at=1)
-    right.append(lonely.flow_counts(flow) == deltat.FlowCounts(7, octets_acknowledged=0, octets_uncertain=0, octets_accepted=0, octets_read=0))
+    right.append(
+        lonely.flow_counts(flow)
+        == deltat.FlowCounts(7, octets_acknowledged=0, octets_uncertain=0, octets_accepted=0, octets_read=0)
+    )
     right += [list(lonely.datagrams()) == [], refused(deltat.InvalidArgument, lonely.add_route, 2, 9)]
     lonely.add_route(2, 1)
     lonely.tick(200)
     right += [[it.to for it in lonely.datagrams()] == [2], refused(deltat.InvalidArgument, lonely.add_route, 2, 1)]
-    right.append(lonely.counts() == deltat.NodeCounts(0, datagrams_refused=0, datagrams_out=1, octets_queued=7, octets_acknowledged=0, octets_uncertain=0, octets_accepted=0, octets_read=0))
+    right.append(
+        lonely.counts()
+        == deltat.NodeCounts(
+            0,
+            datagrams_refused=0,
+            datagrams_out=1,
+            octets_queued=7,
+            octets_acknowledged=0,
+            octets_uncertain=0,
+            octets_accepted=0,
+            octets_read=0,
+        )
+    )
     node.close()
     node.close()
     right += [refused(deltat.Stopped, node.count_flow, flow), refused(deltat.Stopped, node.flow_counts, flow)]
-    right += [refused(deltat.Stopped, node.tick, 5), refused(deltat.Stopped, node.counts), refused(deltat.Stopped, node.add_route, 3, 1)]
+    right += [
+        refused(deltat.Stopped, node.tick, 5),
+        refused(deltat.Stopped, node.counts),
+        refused(deltat.Stopped, node.add_route, 3, 1),
+    ]
     return all(right)
 
 
 def taken(nodes: list[deltat.Node], at: int, is_lost: bool = False) -> list[tuple[int, bytes, bool]]:
-    """What waits at one of two nodes comes to the other, or is lost. The messages that node 2 has then, by their ports."""
+    """What waits at one of two nodes comes to the other, or is lost. The messages that node 2 has then, by their
+    ports."""
     for node, other in (nodes, nodes[::-1]):
         node.tick(at)
         for frame in node.datagrams():
@@ -135,7 +179,14 @@ def taken(nodes: list[deltat.Node], at: int, is_lost: bool = False) -> list[tupl
 
 def whole() -> bool:
     longest = 150_000
-    nodes, flow, found = [node_of(1, 2, False, 0), deltat.Node(2, PARAMS, [deltat.Link(1, CHARGE)], {1: 1}, start=deltat.Start.FIRST, at=0, longest=longest)], deltat.Flow(1, 10, 2, 20), []
+    nodes, flow, found = (
+        [
+            node_of(1, 2, False, 0),
+            deltat.Node(2, PARAMS, [deltat.Link(1, CHARGE)], {1: 1}, start=deltat.Start.FIRST, at=0, longest=longest),
+        ],
+        deltat.Flow(1, 10, 2, 20),
+        [],
+    )
     octets, at = random.Random(3).randbytes(longest), 0
     for place in range(0, longest, 50_000):
         nodes[0].send(flow, octets[place : place + 50_000], place == 0, place == 100_000, at=at)
@@ -151,11 +202,20 @@ def whole() -> bool:
     nodes[0].send(flow, b"last", at=at)
     for at in range(at, at + 1000, 50):
         found += taken(nodes, at)
-    wanted = [(10, octets, True), (10, b"next", False), (11, b"other", True), (10, b"behind", True), (10, b"last", False)]
+    wanted = [
+        (10, octets, True),
+        (10, b"next", False),
+        (11, b"other", True),
+        (10, b"behind", True),
+        (10, b"last", False),
+    ]
     if found != wanted:
         print(f"whole: {[(port, it[:10], len(it), gap) for port, it, gap in found]} came")
     right = found == wanted and nodes[1].dropped_too_long == 0
-    nodes = [node_of(1, 2, False, 0), deltat.Node(2, PARAMS, [deltat.Link(1, CHARGE)], {1: 1}, start=deltat.Start.FIRST, at=0, longest=5)]
+    nodes = [
+        node_of(1, 2, False, 0),
+        deltat.Node(2, PARAMS, [deltat.Link(1, CHARGE)], {1: 1}, start=deltat.Start.FIRST, at=0, longest=5),
+    ]
     for it in (b"longer", b"short", b"longest", b"end"):
         nodes[0].send(flow, it, at=1)
     return right and taken(nodes, 1) == [(10, b"short", True), (10, b"end", True)] and nodes[1].dropped_too_long == 2
@@ -175,7 +235,9 @@ class Run:
         for frame in self.nodes[number].datagrams():
             copies = self.chance.choices([0, 1, 2, 3], [15, 65, 15, 5])[0]
             for _ in range(copies):
-                heapq.heappush(self.links, (self.at + self.chance.randrange(CHARGE), next(self.count), frame.to, frame.octets))
+                heapq.heappush(
+                    self.links, (self.at + self.chance.randrange(CHARGE), next(self.count), frame.to, frame.octets)
+                )
 
     def take(self, number: int) -> None:
         self.came += [(it, self.life[number]) for it in self.nodes[number].messages(self.at)]
@@ -202,7 +264,9 @@ class Run:
         elif what < 0.125:
             self.restart(self.chance.choice([1, 2]))
         elif self.links and what < 0.8:
-            self.at, _, to, octets = heapq.heappop(self.links) if self.links[0][0] >= self.at else (self.at, *heapq.heappop(self.links)[1:])
+            self.at, _, to, octets = (
+                heapq.heappop(self.links) if self.links[0][0] >= self.at else (self.at, *heapq.heappop(self.links)[1:])
+            )
             self.nodes[to].receive(1, octets, at=self.at)
             self.take(to)
         else:
@@ -241,12 +305,14 @@ sys.path.insert(0, {path!r})
 import deltat
 number, port, to, again, seconds = (int(word) for word in sys.argv[1:6])
 params = deltat.Params(mpl=1000, r=3000, a=200, rto=100, probe=800, seg=500, cap=65536, rcap=65536, window=65536)
-node = deltat.Node(number, params, [deltat.Link(1, 300)], {{3 - number: 1}}, start=deltat.Start.AGAIN if again else deltat.Start.FIRST)
+start = deltat.Start.AGAIN if again else deltat.Start.FIRST
+node = deltat.Node(number, params, [deltat.Link(1, 300)], {{3 - number: 1}}, start=start)
 end, count = time.monotonic() + seconds, 0
 with deltat.Udp(node, ({host!r}, port), {{3 - number: ({host!r}, to)}}) as udp:
     while time.monotonic() < end:
         try:
-            udp.send(deltat.Flow(number, 10, 3 - number, 20), b"%d %d %d" % (number, deltat.now(), count) + bytes(count % 900))
+            octets = b"%d %d %d" % (number, deltat.now(), count) + bytes(count % 900)
+            udp.send(deltat.Flow(number, 10, 3 - number, 20), octets)
             count += 1
         except (deltat.Full, deltat.Quiet):
             pass
@@ -357,7 +423,14 @@ async def asynchronously() -> bool:
     chance = random.Random(9)
     is_bad = True
     with Between(lambda number, octets: chance.choices([0, 1, 2], [10, 75, 15])[0] if is_bad else 1) as link:
-        ends = [deltat.AsyncUdp(node_of(number, 3 - number, False, deltat.now()), (HOST, link.nodes[number - 1]), {3 - number: (HOST, link.port(number))}) for number in (1, 2)]
+        ends = [
+            deltat.AsyncUdp(
+                node_of(number, 3 - number, False, deltat.now()),
+                (HOST, link.nodes[number - 1]),
+                {3 - number: (HOST, link.port(number))},
+            )
+            for number in (1, 2)
+        ]
         answers: dict[bytes, asyncio.Event] = {}
         serving, hearing = asyncio.create_task(serve(ends[1])), asyncio.create_task(hear(ends[0], answers))
         await asyncio.gather(*(ask(ends[0], port, 25, answers) for port in range(10, 14)))
@@ -389,12 +462,15 @@ def service_of(number: int, ports: dict[int, deltat.PortKind]) -> deltat.Service
 
 
 def users() -> bool:
-    """Whether each of two calls under way ends with what it was given, in whatever order they end, and none that isn't made has an end."""
+    """Whether each of two calls under way ends with what it was given, in whatever order they end, and none that isn't
+    made has an end."""
     flow, given = deltat.Flow(1, 10, 2, 20), {b"first": 2**64 - 1, b"second": 7}
     client, server = service_of(1, {10: deltat.PortKind.CALLER}), service_of(2, {20: deltat.PortKind.SERVICE})
     at = deltat.now()
     numbers = {client.call(flow, payload, 1000, at=at, user=user): payload for payload, user in given.items()}
-    right = refused(deltat.InvalidArgument, lambda: client.call(flow, b"", 1000, user=2**64)) and refused(deltat.InvalidArgument, lambda: client.call(flow, b"", 0, user=8))
+    right = refused(deltat.InvalidArgument, lambda: client.call(flow, b"", 1000, user=2**64)) and refused(
+        deltat.InvalidArgument, lambda: client.call(flow, b"", 0, user=8)
+    )
     for it in client.datagrams():
         server.receive(1, it.octets, at=at)
     for request in list(server.events())[1:]:
@@ -446,7 +522,10 @@ def calls_in_turn(link: Between, payloads: list[bytes]) -> bool:
 
 async def calls_at_once(link: Between, payloads: list[bytes]) -> bool:
     kinds = {1: {port: deltat.PortKind.CALLER for port in range(10, 14)}, 2: {20: deltat.PortKind.SERVICE}}
-    ends = {it: deltat.AsyncUdp(service_of(it, kinds[it]), (HOST, link.nodes[it - 1]), {3 - it: (HOST, link.port(it))}) for it in (1, 2)}
+    ends = {
+        it: deltat.AsyncUdp(service_of(it, kinds[it]), (HOST, link.nodes[it - 1]), {3 - it: (HOST, link.port(it))})
+        for it in (1, 2)
+    }
     client, server = deltat.AsyncCalls(ends[1]), deltat.AsyncCalls(ends[2])
 
     @server.on(20)
@@ -455,14 +534,20 @@ async def calls_at_once(link: Between, payloads: list[bytes]) -> bool:
         return request.payload[::-1]
 
     serving = asyncio.create_task(server.run())
-    answers = await asyncio.gather(*(client.call(deltat.Flow(1, 10 + it % 4, 2, 20), octets, 20.0) for it, octets in enumerate(payloads)))
+    answers = await asyncio.gather(
+        *(client.call(deltat.Flow(1, 10 + it % 4, 2, 20), octets, 20.0) for it, octets in enumerate(payloads))
+    )
     serving.cancel()
     waiting = asyncio.create_task(client.call(deltat.Flow(1, 10, 2, 21), b"nobody", 30.0))
     await asyncio.sleep(0.1)
     for end in ends.values():
         end.close()
     told, = await asyncio.gather(waiting, return_exceptions=True)
-    return answers == [it[::-1] for it in payloads] and isinstance(told, deltat.Unsure) and told.cause is deltat.Cause.STOPPED
+    return (
+        answers == [it[::-1] for it in payloads]
+        and isinstance(told, deltat.Unsure)
+        and told.cause is deltat.Cause.STOPPED
+    )
 
 
 def reply_given_up(link: Between) -> bool:
@@ -515,7 +600,12 @@ def exchanged(ends: dict[int, deltat.Udp], chance: random.Random, seconds: float
             if chance.random() < 0.1:
                 count += 1
                 try:
-                    udp.send(deltat.Flow(number, 10, 3 - number, 20 + count % 2), chance.randbytes(chance.choice([1, 60, 501, 1200])), chance.random() < 0.95, chance.random() < 0.95)
+                    udp.send(
+                        deltat.Flow(number, 10, 3 - number, 20 + count % 2),
+                        chance.randbytes(chance.choice([1, 60, 501, 1200])),
+                        chance.random() < 0.95,
+                        chance.random() < 0.95,
+                    )
                 except (deltat.Full, deltat.Quiet):
                     pass
             came += len(udp.poll(0.002))
@@ -532,16 +622,30 @@ def recorded() -> bool:
         if chance.random() < 0.05:
             spoilt = bytearray(octets)
             spoilt[chance.randrange(len(octets))] ^= 1 << chance.randrange(8)
-            link.ends[2 - number].sendto(chance.choice([bytes(spoilt), octets[: chance.randrange(len(octets))]]), (HOST, link.nodes[2 - number]))
+            link.ends[2 - number].sendto(
+                chance.choice([bytes(spoilt), octets[: chance.randrange(len(octets))]]), (HOST, link.nodes[2 - number])
+            )
         return chance.choices([0, 1, 2], [15, 70, 15])[0]
 
     with tempfile.TemporaryDirectory() as folder, Between(rule) as link:
         nodes = {}
         for number, most in ((1, record.MOST), (2, SHORT_RECORD)):
             record.MOST = most
-            nodes[number] = Failing(f"{folder}/{number}", number, PARAMS, [deltat.Link(1, CHARGE)], {3 - number: 1}, start=deltat.Start(number))
+            nodes[number] = Failing(
+                f"{folder}/{number}",
+                number,
+                PARAMS,
+                [deltat.Link(1, CHARGE)],
+                {3 - number: 1},
+                start=deltat.Start(number),
+            )
         # (the octets that were spoilt may be those of a trailer)
-        ends = {number: deltat.Udp(node, (HOST, link.nodes[number - 1]), {3 - number: (HOST, link.port(number))}, watch=False) for number, node in nodes.items()}
+        ends = {
+            number: deltat.Udp(
+                node, (HOST, link.nodes[number - 1]), {3 - number: (HOST, link.port(number))}, watch=False
+            )
+            for number, node in nodes.items()
+        }
         came = exchanged(ends, chance, PARAMS.quiet_ms / 1000 + 6)
         for number, udp in ends.items():
             udp.close()
@@ -549,9 +653,17 @@ def recorded() -> bool:
                 ran, told = subprocess.run([str(PROGRAM), "retrace"], stdin=given, capture_output=True), log.read()
             words = {line.split(b" ")[2] for line in told.splitlines()[:-1]}
             size = os.path.getsize(f"{folder}/{number}")
-            print(f"recorded: node {number} told {told.count(10)} lines of {len(words)} kinds, in {size} octets; {udp.not_sent} frames weren't sent")
+            print(
+                f"recorded: node {number} told {told.count(10)} lines of {len(words)} kinds, in {size} octets;"
+                f" {udp.not_sent} frames weren't sent"
+            )
             wanted = {b"unsent", b"bad", b"read", b"resent"} if number == 1 else {b"refused", b"quiet"}
-            right = right and (ran.returncode, ran.stdout) == (0, told) and wanted <= words and (number == 1 or size <= SHORT_RECORD)
+            right = (
+                right
+                and (ran.returncode, ran.stdout) == (0, told)
+                and wanted <= words
+                and (number == 1 or size <= SHORT_RECORD)
+            )
     print(f"recorded: {came} messages came")
     return right and came > 20
 
@@ -580,7 +692,9 @@ def counted(service: list[str]) -> bool:
     with anew() as places, subprocess.Popen(service, stdout=subprocess.DEVNULL, env=places) as it:
         time.sleep(0.7)
         client = [sys.executable, str(TOP / "tools" / "dtcat.py"), "1@4001", "2@4002", "--linger", "1"]
-        ran = subprocess.run(client, input="apples 3\npears 5\napples 4\n", capture_output=True, text=True, timeout=20, env=places)
+        ran = subprocess.run(
+            client, input="apples 3\npears 5\napples 4\n", capture_output=True, text=True, timeout=20, env=places
+        )
         it.kill()
     if ran.stdout != "apples 3\npears 5\napples 7\n":
         print(f"examples: {service} was asked, and the answer was {ran.stdout!r} {ran.stderr[-200:]!r}")
@@ -591,8 +705,20 @@ def counted(service: list[str]) -> bool:
 
 def compiled(compiler: str, name: str, folder: str) -> str | None:
     """An example in C, compiled, or None where it can't be."""
-    words = [compiler, "-std=gnu11", "-O2", "-Wall", "-Wextra", "-Werror", "-I", str(TOP / "include"), str(TOP / "examples" / f"{name}.c")]
-    built = subprocess.run([*words, str(TOP / "lib" / "libdeltat.a"), "-o", f"{folder}/{name}-{compiler}"], capture_output=True, text=True)
+    words = [
+        compiler,
+        "-std=gnu11",
+        "-O2",
+        "-Wall",
+        "-Wextra",
+        "-Werror",
+        "-I",
+        str(TOP / "include"),
+        str(TOP / "examples" / f"{name}.c"),
+    ]
+    built = subprocess.run(
+        [*words, str(TOP / "lib" / "libdeltat.a"), "-o", f"{folder}/{name}-{compiler}"], capture_output=True, text=True
+    )
     if built.returncode:
         print(f"examples: {compiler}: {built.stderr[-500:]}")
     return None if built.returncode else f"{folder}/{name}-{compiler}"
@@ -614,7 +740,17 @@ def examples() -> bool:
 
 def main() -> int:
     words = sys.argv[2:] if named else sys.argv[1:]
-    tests = {"refusals": refusals, "whole": whole, "simulated": simulated, "processes": processes, "asynchronous": asynchronous, "recorded": recorded, "users": users, "services": services, "examples": examples}
+    tests = {
+        "refusals": refusals,
+        "whole": whole,
+        "simulated": simulated,
+        "processes": processes,
+        "asynchronous": asynchronous,
+        "recorded": recorded,
+        "users": users,
+        "services": services,
+        "examples": examples,
+    }
     failed = 0
     for name in words or tests:
         begun = time.monotonic()

@@ -1,19 +1,20 @@
 #!/usr/bin/env python3
 """The firmware of examples/board under QEMU, over a bad serial line against `deltat node` and against the library.
-`tests/board.py [PROGRAM] [--library ARCHIVE] [--seed N] [--loss PART] [--keep FOLDER]` ends with 1 where one of these fails:
+`tests/board.py [PROGRAM] [--library ARCHIVE] [--seed N] [--loss PART] [--keep FOLDER]` ends with 1 where one of these
+fails:
 
 - built: the firmware compiles without a warning, and stays below CEILINGS.
-- first: the board starts with an erased flash, so as a new node, and sends at once. A tenth of the datagrams is lost each
-  way, some come twice, in another order or spoilt. What was read is what was sent, in order; nothing that was acknowledged
-  is missing, and nothing in between where nothing is uncertain; `deltat audit` says yes to both logs.
+- first: the board starts with an erased flash, so as a new node, and sends at once. A tenth of the datagrams is lost
+  each way, some come twice, in another order or spoilt. What was read is what was sent, in order; nothing that was
+  acknowledged is missing, and nothing in between where nothing is uncertain; `deltat audit` says yes to both logs.
 - again: the board starts once more, with the flash as it was when it was cut off: it counts a start, and is silent for
   3 mpl + r + a. It never sends before.
 - full: the same with a page of flash that has no room for another start: it isn't erased.
 - library: the same as `first`, with the library over lib/serial at the other end of the line, a pseudo terminal
   (tests/serial/peer.c): both logs are audited. Left out, with a line, where there is no library or no gcc.
 
-A run in which the bridge or the emulator was held up shows nothing: the charge doesn't cover what waited there. It is done
-again, three times at most, and then it fails: run the test on a machine with less work.
+A run in which the bridge or the emulator was held up shows nothing: the charge doesn't cover what waited there. It is
+done again, three times at most, and then it fails: run the test on a machine with less work.
 
 Ends with 77 where there is no program, no qemu-system-arm or no arm-none-eabi-gcc.
 
@@ -49,8 +50,24 @@ LONGEST_MESSAGE = 200
 TRIES = 3
 # octets: code, and memory without the stack; gcc 12 makes 8,908 and 4,380. The stack's is what the firmware measured
 CEILINGS = {"code": 9300, "memory": 4500, "stack": 1200}
-COMPILE = ["arm-none-eabi-gcc", "-mcpu=cortex-m3", "-mthumb", "-Os", "-std=c11", "-DDTM_SENDS=2", f"-DSECONDS={SECONDS}", "-ffreestanding", "-nostdlib",
-           "-fno-tree-loop-distribute-patterns", "-Wall", "-Wextra", "-Werror", f"-I{TOP / 'micro'}", "-T", str(BOARD / "mps2.ld")]
+COMPILE = [
+    "arm-none-eabi-gcc",
+    "-mcpu=cortex-m3",
+    "-mthumb",
+    "-Os",
+    "-std=c11",
+    "-DDTM_SENDS=2",
+    f"-DSECONDS={SECONDS}",
+    "-ffreestanding",
+    "-nostdlib",
+    "-fno-tree-loop-distribute-patterns",
+    "-Wall",
+    "-Wextra",
+    "-Werror",
+    f"-I{TOP / 'micro'}",
+    "-T",
+    str(BOARD / "mps2.ld"),
+]
 FLASH = (0x20100000, 4096)
 UP, DOWN, BACK = "1:10>2:20", "2:20>1:10", "1:11>2:21"
 SERIAL, PEER = TOP / "lib" / "serial", TOP / "tests" / "serial" / "peer.c"
@@ -60,8 +77,15 @@ PEER_FLAGS = ["-std=c11", "-D_GNU_SOURCE", "-g", "-O1", "-Wall", "-Wextra", "-We
 
 def built(folder: pathlib.Path) -> str:
     path = str(folder / "firmware.elf")
-    subprocess.run([*COMPILE, *map(str, sorted(BOARD.glob("*.c"))), str(TOP / "micro" / "deltat_micro.c"), "-lgcc", "-o", path], check=True)
-    row = subprocess.run(["arm-none-eabi-size", path], capture_output=True, text=True, check=True).stdout.splitlines()[1].split()
+    subprocess.run(
+        [*COMPILE, *map(str, sorted(BOARD.glob("*.c"))), str(TOP / "micro" / "deltat_micro.c"), "-lgcc", "-o", path],
+        check=True,
+    )
+    row = (
+        subprocess.run(["arm-none-eabi-size", path], capture_output=True, text=True, check=True)
+        .stdout.splitlines()[1]
+        .split()
+    )
     found = {"code": int(row[0]) + int(row[1]), "memory": int(row[1]) + int(row[2])}
     print("firmware:", ", ".join(f"{name} {octets} (at most {CEILINGS[name]})" for name, octets in found.items()))
     if any(octets > CEILINGS[name] for name, octets in found.items()):
@@ -104,8 +128,9 @@ def script(local: int, peer: int, chance: random.Random) -> tuple[str, list[byte
 
 @dataclass
 class Run:
-    """What both ends wrote, the octets that node 2 took to send, the board's last lines, and its flash when it was cut off.
-    `is_whole`: node 2 reads whole messages. `held_up`: how often a datagram may have waited for longer than the charge."""
+    """What both ends wrote, the octets that node 2 took to send, the board's last lines, and its flash when it was cut
+    off. `is_whole`: node 2 reads whole messages. `held_up`: how often a datagram may have waited for longer than the
+    charge."""
 
     board: list[str]
     node: list[str]
@@ -118,8 +143,8 @@ class Run:
 
 @dataclass
 class Peer:
-    """Node 2: the bridge's end to it, its process, and what it sends. The library's offers a message again that was refused,
-    and reads whole messages."""
+    """Node 2: the bridge's end to it, its process, and what it sends. The library's offers a message again that was
+    refused, and reads whole messages."""
 
     end: Line | Udp
     process: subprocess.Popen[bytes]
@@ -140,7 +165,9 @@ def program(given: argparse.Namespace, log: pathlib.Path) -> Iterator[Peer]:
     here, there = free_ports(2)
     text, sent = script(there, here, random.Random(given.seed))
     end = Udp(here, there)
-    with open(log, "wb") as out, end.socket, subprocess.Popen([given.program, "node"], stdin=subprocess.PIPE, stdout=out) as node:
+    with open(log, "wb") as out, end.socket, subprocess.Popen(
+        [given.program, "node"], stdin=subprocess.PIPE, stdout=out
+    ) as node:
         assert node.stdin
         with node.stdin as lines:
             lines.write(text.encode())
@@ -164,7 +191,8 @@ def library(given: argparse.Namespace, log: pathlib.Path) -> Iterator[Peer]:
 
 
 def dump(folder: pathlib.Path) -> bytes:
-    """The flash as it is, by QEMU's monitor, once the board has written a line of its log: by then it has counted its start."""
+    """The flash as it is, by QEMU's monitor, once the board has written a line of its log: by then it has counted its
+    start."""
     monitor, path, log = folder / "monitor", folder / "flash.now", folder / "board.log"
     until = time.monotonic() + 10
     while time.monotonic() < until and not (log.exists() and log.stat().st_size):
@@ -182,12 +210,29 @@ def start_board(firmware: str, folder: pathlib.Path, flash: bytes) -> subprocess
     (folder / "flash").write_bytes(flash)
     for name in ("uart", "monitor", "board.log", "flash.now"):
         (folder / name).unlink(missing_ok=True)
-    return subprocess.Popen([
-        "qemu-system-arm", "-M", "mps2-an385", "-display", "none", "-kernel", firmware,
-        "-device", f"loader,file={folder / 'flash'},addr={FLASH[0]:#x},force-raw=on",
-        "-monitor", f"unix:{folder / 'monitor'},server=on,wait=off",
-        "-chardev", f"socket,id=u,path={folder / 'uart'},server=on,wait=off", "-serial", "chardev:u",
-        "-semihosting-config", "enable=on,target=native,chardev=s", "-chardev", f"file,id=s,path={folder / 'board.log'}"])
+    return subprocess.Popen(
+        [
+            "qemu-system-arm",
+            "-M",
+            "mps2-an385",
+            "-display",
+            "none",
+            "-kernel",
+            firmware,
+            "-device",
+            f"loader,file={folder / 'flash'},addr={FLASH[0]:#x},force-raw=on",
+            "-monitor",
+            f"unix:{folder / 'monitor'},server=on,wait=off",
+            "-chardev",
+            f"socket,id=u,path={folder / 'uart'},server=on,wait=off",
+            "-serial",
+            "chardev:u",
+            "-semihosting-config",
+            "enable=on,target=native,chardev=s",
+            "-chardev",
+            f"file,id=s,path={folder / 'board.log'}",
+        ]
+    )
 
 
 @contextlib.contextmanager
@@ -228,7 +273,9 @@ def run_once(firmware: str, folder: pathlib.Path, given: argparse.Namespace, fla
     with other(given, folder / "node.log") as peer:
         board = start_board(firmware, folder, flash)
         try:
-            with connected(str(folder / "uart")) as line, carried(Bridge(Line(line.fileno()), peer.end, given.loss, given.seed)) as bridge:
+            with connected(str(folder / "uart")) as line, carried(
+                Bridge(Line(line.fileno()), peer.end, given.loss, given.seed)
+            ) as bridge:
                 now = dump(folder)
                 if peer.process.wait(SECONDS + 30) or board.wait(60):
                     sys.exit(f"node 2 ended with {peer.process.returncode}, the board with {board.returncode}")
@@ -258,24 +305,36 @@ def is_part(found: bytes, of: bytes) -> bool:
 
 
 def is_sound(what: str, found: bytes, taken: bytes, lines: list[str], flow: str, left_out: int = 0) -> bool:
-    """Whether what was read are octets that were taken, in order; none that its sender had acknowledged is missing, but for
-    `left_out`, and where nothing is uncertain, none in between."""
+    """Whether what was read are octets that were taken, in order; none that its sender had acknowledged is missing, but
+    for `left_out`, and where nothing is uncertain, none in between."""
     settled, uncertain = count(lines, "settled", flow), count(lines, "uncertain", flow)
     good = is_part(found, taken) and len(found) >= settled - left_out and (uncertain > 0 or taken.startswith(found))
-    print(f"{what}: {len(taken)} octets taken, {len(found)} read, {settled} acknowledged, {uncertain} uncertain{'' if good else ': WRONG'}")
+    print(
+        f"{what}: {len(taken)} octets taken, {len(found)} read, {settled} acknowledged,"
+        f" {uncertain} uncertain{'' if good else ': WRONG'}"
+    )
     return good
 
 
 def at_node(run_: Run, what: str, taken: bytes, flow: str) -> bool:
-    """Whether what node 2 read of a flow of the board is sound. Where it reads whole messages, it leaves out those of which
-    an octet is uncertain, and a last one that isn't whole yet."""
+    """Whether what node 2 read of a flow of the board is sound. Where it reads whole messages, it leaves out those of
+    which an octet is uncertain, and a last one that isn't whole yet."""
     left_out = LONGEST_MESSAGE * (1 + count(run_.board, "uncertain", flow)) if run_.is_whole else 0
-    return is_sound(what, octets_read(run_.node, flow), taken[: count(run_.board, "took", flow)], run_.board, flow, left_out)
+    return is_sound(
+        what, octets_read(run_.node, flow), taken[: count(run_.board, "took", flow)], run_.board, flow, left_out
+    )
 
 
 def audited(run_: Run, folder: pathlib.Path, program: str) -> bool:
     (folder / "one.log").write_text("".join(f"{it}\n" for it in run_.board))
-    words = [sys.executable, str(TOP / "tools" / "fieldaudit.py"), str(folder / "one.log"), str(folder / "node.log"), "--deltat", program]
+    words = [
+        sys.executable,
+        str(TOP / "tools" / "fieldaudit.py"),
+        str(folder / "one.log"),
+        str(folder / "node.log"),
+        "--deltat",
+        program,
+    ]
     ran = subprocess.run(words, capture_output=True, text=True, check=False)
     print(ran.stdout.strip().splitlines()[-1:], ran.stderr.strip())
     return ran.returncode == 0 and "audit yes" in ran.stdout
@@ -286,8 +345,15 @@ def first(run_: Run, folder: pathlib.Path, program: str) -> bool:
     mine = octets_read(run_.board, DOWN)
     stack = int(next(iter(re.findall(r" stack ([0-9]+)", run_.notes)), CEILINGS["stack"] + 1))
     print(run_.notes, f"(stack at most {CEILINGS['stack']})")
-    good = [at_node(run_, "up", up, UP), is_sound("down", mine, run_.taken, run_.node, DOWN), at_node(run_, "back", mine, BACK),
-            audited(run_, folder, program), count(run_.board, "took", UP) > 1000, len(mine) > 200, stack <= CEILINGS["stack"]]
+    good = [
+        at_node(run_, "up", up, UP),
+        is_sound("down", mine, run_.taken, run_.node, DOWN),
+        at_node(run_, "back", mine, BACK),
+        audited(run_, folder, program),
+        count(run_.board, "took", UP) > 1000,
+        len(mine) > 200,
+        stack <= CEILINGS["stack"],
+    ]
     return all(good) and " again 0" in run_.notes and run_.held_up == 0
 
 
@@ -295,8 +361,17 @@ def again(run_: Run, folder: pathlib.Path, program: str) -> bool:
     """Whether the board was silent, and no longer, and what it sent then is sound."""
     left = [int(it.split(" ")[0]) for it in run_.board if it.split(" ")[2:3] == ["put"]]
     taken = [int(it.split(" ")[0]) for it in run_.board if " took 1:10" in it]
-    print(run_.notes, f"first datagram at {left[0] if left else 'none'} ms, first octets taken at {taken[0] if taken else 'none'}")
-    return " again 1" in run_.notes and bool(left) and min(left) >= QUIET and QUIET <= taken[0] < QUIET + 1000 and audited(run_, folder, program)
+    print(
+        run_.notes,
+        f"first datagram at {left[0] if left else 'none'} ms, first octets taken at {taken[0] if taken else 'none'}",
+    )
+    return (
+        " again 1" in run_.notes
+        and bool(left)
+        and min(left) >= QUIET
+        and QUIET <= taken[0] < QUIET + 1000
+        and audited(run_, folder, program)
+    )
 
 
 def tried(firmware: str, folder: pathlib.Path, given: argparse.Namespace) -> list[str]:
@@ -314,13 +389,21 @@ def tried(firmware: str, folder: pathlib.Path, given: argparse.Namespace) -> lis
         print(f"library: there is no {'gcc' if given.library.exists() else f'{given.library}: make -C lib'}")
         return failed
     build_peer(folder, given.library)
-    return failed if first(run(firmware, folder, given, erased, library), folder, given.program) else [*failed, "library"]
+    return (
+        failed if first(run(firmware, folder, given, erased, library), folder, given.program) else [*failed, "library"]
+    )
 
 
 def main() -> int:
     reads = argparse.ArgumentParser(description=__doc__, formatter_class=argparse.RawDescriptionHelpFormatter)
     reads.add_argument("program", nargs="?", default=str(PROGRAM), help="the program (%(default)s)")
-    reads.add_argument("--library", type=pathlib.Path, default=TOP / "lib" / "libdeltat.a", metavar="ARCHIVE", help="the archive (%(default)s)")
+    reads.add_argument(
+        "--library",
+        type=pathlib.Path,
+        default=TOP / "lib" / "libdeltat.a",
+        metavar="ARCHIVE",
+        help="the archive (%(default)s)",
+    )
     reads.add_argument("--seed", type=int, default=1)
     reads.add_argument("--loss", type=float, default=0.1)
     reads.add_argument("--keep", type=pathlib.Path, metavar="FOLDER", help="keep the logs there")

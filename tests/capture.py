@@ -53,7 +53,9 @@ class Tshark:
         self._probe = bound()
         self._file = os.path.join(folder, f"{ports[0]}.pcapng")
         wanted = " or ".join(f"udp port {it}" for it in ports)
-        self._ran = subprocess.Popen(["tshark", "-q", "-i", "lo", "-f", wanted, "-w", self._file], stderr=subprocess.PIPE)
+        self._ran = subprocess.Popen(
+            ["tshark", "-q", "-i", "lo", "-f", wanted, "-w", self._file], stderr=subprocess.PIPE
+        )
         self.works = self._begins(ports[0])
 
     def _begins(self, port: int) -> bool:
@@ -80,7 +82,17 @@ def packets_of(path: str, *options: str) -> list[Packet]:
     """The datagrams of a capture file. Linux doesn't fill in the sums of datagrams on the loopback
     interface, so those of a file are looked at only where that is asked for."""
     fields = ["frame.time_epoch", "udp.srcport", "udp.dstport", "udp.payload"]
-    command = ["tshark", "-n", "-X", f"lua_script:{LUA}", "-r", path, "-T", "fields", *(it for name in fields for it in ("-e", name))]
+    command = [
+        "tshark",
+        "-n",
+        "-X",
+        f"lua_script:{LUA}",
+        "-r",
+        path,
+        "-T",
+        "fields",
+        *(it for name in fields for it in ("-e", name)),
+    ]
     ran = subprocess.run([*command, *(options or ("-Y", "udp && !icmp"))], capture_output=True, text=True, check=True)
     rows = [line.split("\t") for line in ran.stdout.splitlines()]
     return [Packet(float(at), int(sender), int(receiver), payload) for at, sender, receiver, payload in rows]
@@ -108,8 +120,18 @@ class Node:
             raise RuntimeError("the node failed")
         path = self.trace + ".pcapng"
         with open(path, "wb") as out:
-            subprocess.run([sys.executable, TOOL, "--program", self._program, self.script, self.trace], stdout=out, check=True)
-        return packets_of(path, "-o", "udp.check_checksum:TRUE", "-o", "ip.check_checksum:TRUE", "-Y", 'udp.checksum.status == "Good" && ip.checksum.status == "Good"')
+            subprocess.run(
+                [sys.executable, TOOL, "--program", self._program, self.script, self.trace], stdout=out, check=True
+            )
+        return packets_of(
+            path,
+            "-o",
+            "udp.check_checksum:TRUE",
+            "-o",
+            "ip.check_checksum:TRUE",
+            "-Y",
+            'udp.checksum.status == "Good" && ip.checksum.status == "Good"',
+        )
 
     def log(self) -> list[str]:
         """The log of the run."""
@@ -135,7 +157,10 @@ def agree(name: str, told: list[Packet], seen: list[Packet], whole: bool) -> boo
         good = good and [it[1:] for it in mine] == [it[1:] for it in theirs]
         late = max([late, *(abs(a.at - zero - b.at) for a, b in zip(mine, theirs))])
     order = "in one order" if whole else f"each of {len(ways)} ways in order"
-    print(f"{name}: {len(told)} datagrams, tshark has {len(seen)}; {order} {'equal' if good else 'NOT equal'}, moments within {late * 1000:.0f} ms")
+    print(
+        f"{name}: {len(told)} datagrams, tshark has {len(seen)}; {order} {'equal' if good else 'NOT equal'}, moments"
+        f" within {late * 1000:.0f} ms"
+    )
     return good and late <= SLACK
 
 
@@ -147,7 +172,11 @@ def talk(program: str, folder: str) -> bool:
     """Each waits for the other, and the node's own timers are far away."""
     peer, port = bound(), free_port()
     seen = Tshark([port], folder)
-    lines = ["route 1 1", "go", *(f"at {300 + 250 * i} send 3:30>1:10 be {bytes([i] * (1 + 400 * i)).hex()}" for i in range(8))]
+    lines = [
+        "route 1 1",
+        "go",
+        *(f"at {300 + 250 * i} send 3:30>1:10 be {bytes([i] * (1 + 400 * i)).hex()}" for i in range(8)),
+    ]
     lines += ["at 3500 read 1:10>3:30 65536", "at 6000 stop"]
     node = Node(program, folder, "talk", script(NO_RESENDS, 3, port, {1: (peer.getsockname()[1], 0)}, lines))
     number, until = 0, time.monotonic() + 3
@@ -192,7 +221,11 @@ def crowd(program: str, folder: str) -> bool:
     told = node.captured()
     seen_of_peers = [it for it in seen.packets() if it.sender != stranger.getsockname()[1]]
     lines = [" ".join(it[2:]) for it in map(str.split, node.log())]
-    missing = [it for it in ("full 2", "expired out 2", "noroute 7", "met ", "resent ", "bad ", "replied ") if not any(line.startswith(it) for line in lines)]
+    missing = [
+        it
+        for it in ("full 2", "expired out 2", "noroute 7", "met ", "resent ", "bad ", "replied ")
+        if not any(line.startswith(it) for line in lines)
+    ]
     if missing:
         print(f"crowd: its log has no line {missing}")
     return agree("crowd", told, seen_of_peers, False) and not missing
@@ -206,12 +239,19 @@ def noise(chance: random.Random, i: int, own: int, other: int) -> bytes:
     if kind == 1:
         return data(wire.Flow(own, 10, 3, 30), 10 * (i // 4), bytes(chance.choice([1, 10, 1200])))
     if kind == 2:
-        return wire.packet(wire.Flow(own, 10, 3, 30), 400, wire.ACK, chance.choice([0, 5, 900, 1300]), 0, chance.choice([0, 100, 3000]))
+        return wire.packet(
+            wire.Flow(own, 10, 3, 30), 400, wire.ACK, chance.choice([0, 5, 900, 1300]), 0, chance.choice([0, 100, 3000])
+        )
     if kind == 3:
         return wire.packet(wire.Flow(own, 10, 3, 30), 400, chance.choice([wire.RENDEZVOUS, wire.CLOSING]), i)
     if kind == 4:
         return data(wire.Flow(own, 10, chance.choice([9, 7]), 1), i, b"far", life=chance.choice([1, 3, 400]))
-    return data(wire.Flow(own, 10, other, 20), i, chance.randbytes(chance.choice([1, 30, 1100])), life=chance.choice([2, 300, 60000]))
+    return data(
+        wire.Flow(own, 10, other, 20),
+        i,
+        chance.randbytes(chance.choice([1, 30, 1100])),
+        life=chance.choice([2, 300, 60000]),
+    )
 
 
 def two(program: str, folder: str) -> bool:
@@ -222,9 +262,13 @@ def two(program: str, folder: str) -> bool:
     for i in (0, 1):
         way = f"{i + 1}:10>{2 - i}:20"
         # the first sends when the second is up too, and stops when nothing of the second is left, on a busy machine too
-        sends = [f"at {2000 + 150 * j} send {way} be {random.Random(j + 9 * i).randbytes(2000).hex()}" for j in range(5)]
+        sends = [
+            f"at {2000 + 150 * j} send {way} be {random.Random(j + 9 * i).randbytes(2000).hex()}" for j in range(5)
+        ]
         lines = [f"route {2 - i} 1", "go", *sends, f"at 2900 read {2 - i}:10>{i + 1}:20 65536", "at 7000 stop"]
-        nodes.append(Node(program, folder, f"two-{i + 1}", script(PARAMS, i + 1, ports[i], {1: (ports[1 - i], 0)}, lines)))
+        nodes.append(
+            Node(program, folder, f"two-{i + 1}", script(PARAMS, i + 1, ports[i], {1: (ports[1 - i], 0)}, lines))
+        )
         wait_for(ports[i])
     told = [node.captured() for node in nodes]
     theirs = seen.packets()
@@ -245,14 +289,20 @@ def marks(program: str, folder: str) -> bool:
         with_marks, without = (capture.run_again(program, it)[1] for it in (text, script.text + "trace\n" + trace))
         added = sum(bool(it.octets) for it in came)
         left = [line for line in with_marks if not line.endswith(" bad short 0")]
-        good = good and left == [line for line in without if not line.endswith(" bad short 0")] and len(with_marks) - len(without) == added
+        good = (
+            good
+            and left == [line for line in without if not line.endswith(" bad short 0")]
+            and len(with_marks) - len(without) == added
+        )
     print(f"marks: {len(scripts)} runs, logs {'equal' if good else 'NOT equal'} but for the marks")
     return good
 
 
 def main() -> int:
     parser = argparse.ArgumentParser(description=__doc__, formatter_class=argparse.RawDescriptionHelpFormatter)
-    parser.add_argument("program", nargs="?", default=str(ROOT / "crates/deltat/out/deltat"), help="the program (default: %(default)s)")
+    parser.add_argument(
+        "program", nargs="?", default=str(ROOT / "crates/deltat/out/deltat"), help="the program (default: %(default)s)"
+    )
     program = os.path.abspath(parser.parse_args().program)
     if not shutil.which("tshark"):
         print("skipped: tshark isn't there (Debian: tshark)")

@@ -9,8 +9,8 @@
 - reader: a reader of frames that isn't the program's holds, and reads some 12,900 frames as the program does; so does
   the one in C, with the sanitizers, where there is a compiler, and its parser compiles alone.
 - chosen: what a device may leave out is left out, and nothing else.
-- sizes: the cases that a small device is asked have no more segments, records and waiting datagrams than it, and what is
-  counted of a case is what it is named for.
+- sizes: the cases that a small device is asked have no more segments, records and waiting datagrams than it, and what
+  is counted of a case is what it is named for.
 - station: the plain station of the tests acknowledges what the vectors say.
 - index: each file of the folders is in the index once, and so is each worked row.
 - lines: each report, fault and flaw of docs/formats.md stands in an answer.
@@ -18,6 +18,7 @@
 
 In tests/all: PROGRAM, 300 s."""
 import collections
+import dataclasses
 import os
 import pathlib
 import re
@@ -27,6 +28,7 @@ import sys
 import tempfile
 
 from lib import TOP, program
+from lib.parameters import WORKED
 
 FOLDER = TOP / "conformance"
 sys.path[:0] = [str(FOLDER), str(TOP / "tools")]
@@ -60,7 +62,9 @@ def spoilt(path: str) -> bool:
     with tempfile.TemporaryDirectory() as folder:
         for what, rest in SPOIL.items():
             wrapper = pathlib.Path(folder) / "spoilt"
-            wrapper.write_text(f'#!/bin/sh\nout={folder}/out\n"{FOLDER}/deltat" "{path}" "$@" > "$out"\nstatus=$?\n{rest}')
+            wrapper.write_text(
+                f'#!/bin/sh\nout={folder}/out\n"{FOLDER}/deltat" "{path}" "$@" > "$out"\nstatus=$?\n{rest}'
+            )
             wrapper.chmod(0o755)
             status, lines = runner(str(wrapper))
             wanted = [it.title() for it in run.cases() if what == "a status" or it.right() != b""]
@@ -82,7 +86,11 @@ def differences(path: str) -> bool:
         (b"", b"a\n", "line 1: missing, should be 'a'"),
         (b"a\nb\n", b"a\n", "line 2: 'b', where the text should end"),
         (b"a\n\xff\n", b"a\n\n", "line 2: '\\xff', should be ''"),
-        (long + b"1" + long + b"\n", long + b"2" + long + b"\n", f"line 1: '..{'0' * 40}1{'0' * 59}..', should be '..{'0' * 40}2{'0' * 59}..'"),
+        (
+            long + b"1" + long + b"\n",
+            long + b"2" + long + b"\n",
+            f"line 1: '..{'0' * 40}1{'0' * 59}..', should be '..{'0' * 40}2{'0' * 59}..'",
+        ),
     ]
     wrong = [(had, wanted) for had, wanted, text in rows if run.first_difference(had, wanted) != text]
     print("".join(f"{run.first_difference(*it)} is said of {it}\n" for it in wrong), end="")
@@ -90,13 +98,16 @@ def differences(path: str) -> bool:
 
 
 def in_c(folder: str) -> str | None:
-    """The reader in C, compiled with the sanitizers; none where there is no compiler. Raises where it doesn't compile."""
+    """The reader in C, compiled with the sanitizers; none where there is no compiler. Raises where it doesn't
+    compile."""
     compiler = next((it for it in ("gcc", "clang") if shutil.which(it)), None)
     if compiler is None:
         return None
     words = [compiler, "-std=c99", "-Wall", "-Wextra", "-Werror", str(FOLDER / "frames.c")]
     subprocess.run([*words, "-DDEVICE", "-ffreestanding", "-c", "-o", f"{folder}/device.o"], check=True)
-    subprocess.run([*words, "-fsanitize=address,undefined", "-fno-sanitize-recover=all", "-o", f"{folder}/frames"], check=True)
+    subprocess.run(
+        [*words, "-fsanitize=address,undefined", "-fno-sanitize-recover=all", "-o", f"{folder}/frames"], check=True
+    )
     return f"{folder}/frames"
 
 
@@ -115,10 +126,19 @@ def reads_alike(path: str, other: str | None) -> bool:
         asked = [it for it in getattr(dissector, name)() if it[8:12] != it[12:16] or len(it) < 16]
         right = asking.lines_of(path, asked)
         if other:
-            ran = subprocess.run([other, "frames"], input="".join(f"{it.hex()}\n" for it in asked), capture_output=True, text=True, check=False)
+            ran = subprocess.run(
+                [other, "frames"],
+                input="".join(f"{it.hex()}\n" for it in asked),
+                capture_output=True,
+                text=True,
+                check=False,
+            )
             differ = [it for it, *lines in zip(asked, right, ran.stdout.splitlines()) if lines[0] != lines[1]]
             if ran.returncode or len(ran.stdout.splitlines()) != len(right) or differ:
-                print(f"the reader in C ends with {ran.returncode}, and reads {len(differ)} frames otherwise: {ran.stderr[:300]}")
+                print(
+                    f"the reader in C ends with {ran.returncode}, and reads {len(differ)} frames otherwise:"
+                    f" {ran.stderr[:300]}"
+                )
                 good = False
         for frame, line in zip(asked, right):
             count += 1
@@ -133,22 +153,55 @@ def chosen(path: str) -> bool:
     """What is left out: by name where the name says it, and each of them where all three are."""
     del path
     by_need = {need: {it.name.rsplit("/", 1)[-1] for it in run.cases() if need in it.needs()} for need in run.NEEDS}
-    relays = {"relay-expired", "relay-last-millisecond", "through-a-relay", "relay-expires-and-restarts", "mixed-2", "relayed", "relay-is-full"}
-    named = {it.name.rsplit("/", 1)[-1] for it in run.cases() if "refused-" in it.name and it.kind in ("schedule", "trace", "calls")}
+    relays = {
+        "relay-expired",
+        "relay-last-millisecond",
+        "through-a-relay",
+        "relay-expires-and-restarts",
+        "mixed-2",
+        "relayed",
+        "relay-is-full",
+    }
+    named = {
+        it.name.rsplit("/", 1)[-1]
+        for it in run.cases()
+        if "refused-" in it.name and it.kind in ("schedule", "trace", "calls")
+    }
     status, lines = runner("--list", "--without", "relay", "--without", "shelf", "--without", "refusals")
     left = {line.split()[1].rsplit("/", 1)[-1] for line in lines}
     small = [line.split()[1] for line in runner("--list", "--kind", "schedule", "--room", "512")[1]]
     sizes = {it.name: it.room() for it in run.cases()}
     print(", ".join(f"{need}: {len(names)}" for need, names in by_need.items()))
-    return (status == 0 and by_need["relay"] == relays and all("shelf" in it for it in by_need["shelf"]) and named <= by_need["refusals"]
-            and not left & set().union(*by_need.values()) and bool(small) and all(sizes[it] <= 512 for it in small) and max(sizes.values()) > 512)
+    return (
+        status == 0
+        and by_need["relay"] == relays
+        and all("shelf" in it for it in by_need["shelf"])
+        and named <= by_need["refusals"]
+        and not left & set().union(*by_need.values())
+        and bool(small)
+        and all(sizes[it] <= 512 for it in small)
+        and max(sizes.values()) > 512
+    )
 
 
 def sizes(path: str) -> bool:
     """What is counted of known cases, and what is left of all for a device. The rounds' logs are the program's."""
-    found = {it.name.rsplit("/", 1)[-1]: it.sizes() for it in run.cases() if it.kind in ("schedule", "trace") and it.status != 3}
-    known = {"setup-alone": (0, 0, 0, 100), "three-packets": (3, 1, 1, 100), "full-link": (64, 64, 2, 100), "mixed-1": (12, 48, 2, 60), "mixed-3": (5, 13, 2, 60),
-             "through-a-relay": (2, 64, 1, 100), "each-kind": (0, 1, 1, 8192), "place-of-unread-octets": (0, 1, 2, 100), "gives-fail-512": (2, 1, 1, 100)}
+    found = {
+        it.name.rsplit("/", 1)[-1]: it.sizes()
+        for it in run.cases()
+        if it.kind in ("schedule", "trace") and it.status != 3
+    }
+    known = {
+        "setup-alone": (0, 0, 0, 100),
+        "three-packets": (3, 1, 1, 100),
+        "full-link": (64, 64, 2, 100),
+        "mixed-1": (12, 48, 2, 60),
+        "mixed-3": (5, 13, 2, 60),
+        "through-a-relay": (2, 64, 1, 100),
+        "each-kind": (0, 1, 1, 8192),
+        "place-of-unread-octets": (0, 1, 2, 100),
+        "gives-fail-512": (2, 1, 1, 100),
+    }
     wrong = [name for name, numbers in known.items() if found[name] != run.Sizes(*numbers)]
     rounds = next(it for it in run.cases() if it.kind == "rounds" and it.word == "replay" and it.name == "1000")
     log = subprocess.run([path, "replay"], input=rounds.given(), stdout=subprocess.PIPE, check=True).stdout
@@ -156,16 +209,23 @@ def sizes(path: str) -> bool:
     words = ["--segments", "4", "--queue", "1", "--records", "1", "--seg", "128", "--room", "512"]
     lines = (line.split() for kind in ("schedule", "trace") for line in runner("--list", "--kind", kind, *words)[1])
     left = {it[1].rsplit("/", 1)[-1] for it in lines if it[3] != "3"}
-    fits = all(it.segments <= 4 and it.queue <= 1 and it.records <= 1 and it.seg <= 128 for name, it in found.items() if name in left)
+    fits = all(
+        it.segments <= 4 and it.queue <= 1 and it.records <= 1 and it.seg <= 128
+        for name, it in found.items()
+        if name in left
+    )
     print(f"sizes of {len(found)} cases; a device of 512 octets has {len(left)}; wrong: {wrong}")
-    return not wrong and same and fits and "node-512" in left and "full-link" not in left and "each-kind-512" not in left
+    return (
+        not wrong and same and fits and "node-512" in left and "full-link" not in left and "each-kind-512" not in left
+    )
 
 
 def station(path: str) -> bool:
-    """What a new record of the plain station has in `told`: the read makes nothing due, and the acknowledgement is late."""
+    """What a new record of the plain station has in `told`: the read makes nothing due, and the acknowledgement is
+    late."""
     del path
     import station_model as plain
-    params = plain.Params(rcap=150, cap=512)
+    params = dataclasses.replace(WORKED, rcap=150, cap=512)
     it = plain.Station(1, params, 0, False)
     flow = plain.Flow(2, 20, 1, 10)
     it.arrive(10, (50, plain.Frame("data", flow, 999, 0, bytes(60), begin=True, run=True)))
@@ -204,17 +264,34 @@ def texts(behind: str, column: int) -> set[str]:
 def lines(path: str) -> bool:
     """Whether each kind of line is in an answer. A fault of a parameter names it: each is wanted."""
     del path
-    answers = [line.split() for it in run.cases() if it.kind != "frames" for line in (it.right() or b"").decode("latin-1").splitlines()]
+    answers = [
+        line.split()
+        for it in run.cases()
+        if it.kind != "frames"
+        for line in (it.right() or b"").decode("latin-1").splitlines()
+    ]
     names = texts("### The numbers of `params`", 3)
-    faults = {it.split()[0] for it in texts("### Faults", 2)} - names - {"param", "out"} | {f"param {it}" for it in names}
+    faults = {it.split()[0] for it in texts("### Faults", 2)} - names - {"param", "out"} | {
+        f"param {it}" for it in names
+    }
     of_frames = texts("Octets that are no Deltagram are refused by the first of these tests that they fail:", 3)
-    of_frames |= texts("The body of a Deltagram that is no packet is refused by the first of these tests that it fails:", 3)
+    of_frames |= texts(
+        "The body of a Deltagram that is no packet is refused by the first of these tests that it fails:", 3
+    )
     of_calls = {it.split()[it.startswith("MOMENT")] for it in texts("### Calls", 1)}
     wanted = [
-        ("reports", {it.split()[0] for it in texts("### Lines of a node", 2)}, {it[2] for it in answers if len(it) > 2}),
+        (
+            "reports",
+            {it.split()[0] for it in texts("### Lines of a node", 2)},
+            {it[2] for it in answers if len(it) > 2},
+        ),
         ("faults", faults, {" ".join(it[2:4] if it[2] == "param" else it[2:3]) for it in answers if it[0] == "line"}),
         ("faults of frames", {it.split()[0] for it in of_frames}, {it[3] for it in answers if it[2:3] == ["bad"]}),
-        ("flaws", texts("### The verdict of an audit", 1) - {"accepted .. on"}, {" ".join(it[2:]) for it in answers if it[0] == "line"}),
+        (
+            "flaws",
+            texts("### The verdict of an audit", 1) - {"accepted .. on"},
+            {" ".join(it[2:]) for it in answers if it[0] == "line"},
+        ),
         ("lines of calls", of_calls, {word for it in answers for word in it[:2]}),
     ]
     for what, all_of, there in wanted:

@@ -40,7 +40,20 @@ def program_answers(program: str, frames: list[bytes]) -> list[list[str]]:
 def tshark(path: str, names: list[str], *options: str) -> list[list[str]]:
     """The values of fields of each packet of a capture."""
     wanted = [it for name in names for it in ("-e", name)]
-    command = ["tshark", "-n", "-X", f"lua_script:{LUA}", "-r", path, *options, "-T", "fields", "-E", "separator=/t", *wanted]
+    command = [
+        "tshark",
+        "-n",
+        "-X",
+        f"lua_script:{LUA}",
+        "-r",
+        path,
+        *options,
+        "-T",
+        "fields",
+        "-E",
+        "separator=/t",
+        *wanted,
+    ]
     ran = subprocess.run(command, capture_output=True, text=True, check=True)
     if "lua" in ran.stderr.lower():
         raise RuntimeError(ran.stderr)
@@ -73,7 +86,9 @@ def differs(frame: bytes, answer: list[str], values: dict[str, str]) -> str:
     # the octets of each field are where docs/formats.md puts them
     places = {"version": (0, 1), "protocol": (1, 2), "life": (4, 8), "from": (8, 12), "to": (12, 16), "kind": (16, 17),
               "number": (22, 26), "window": (26, 30)}
-    wrong = [name for name, (start, end) in places.items() if int(values[name]) != int.from_bytes(frame[start:end], "big")]
+    wrong = [
+        name for name, (start, end) in places.items() if int(values[name]) != int.from_bytes(frame[start:end], "big")
+    ]
     if word == "noroute":
         wrong += ["to"] if values["to"] != answer[1] else []
     elif word == "put":
@@ -141,7 +156,9 @@ def lengths() -> Iterator[bytes]:
     for version in (1, 2):
         for there in (0, 13, 14, 15, 1038, 1039):
             for told in (0, 13, 14, 15, 1038, 1039, 8206, 8207, 65535):
-                yield wire.deltagram(version, 5, 1, 2, bytes(there))[:2] + told.to_bytes(2, "big") + wire.deltagram(version, 5, 1, 2, bytes(there))[4:]
+                yield wire.deltagram(version, 5, 1, 2, bytes(there))[:2] + told.to_bytes(2, "big") + wire.deltagram(
+                    version, 5, 1, 2, bytes(there)
+                )[4:]
 
 
 def parts() -> Iterator[bytes]:
@@ -168,12 +185,18 @@ def talk() -> list[tuple[bytes, dict[str, str]]]:
     return [
         (worked(), {**hello, "acked_in": "3", "again": "", "acked_after": ""}),
         (wire.with_life(worked(), 500), {**hello, "again": "True", "first": "1", "acked_in": ""}),
-        (wire.packet(WAY.back(), 999, wire.ACK, 5, 0, 4091), {"flow": "1:10>2:20", "acks": "1", "acked_after": "0.200000000", "again": ""}),
+        (
+            wire.packet(WAY.back(), 999, wire.ACK, 5, 0, 4091),
+            {"flow": "1:10>2:20", "acks": "1", "acked_after": "0.200000000", "again": ""},
+        ),
         (wire.packet(WAY.back(), 999, wire.ACK, 5, 0, 4091), {"again": "True", "first": "3", "acked_after": ""}),
         (wire.packet(WAY, 999, wire.DATA, 5, 0, 0, b"x"), {"letters": "-", "again": "", "next": "6"}),
         (wire.packet(WAY, 999, wire.DATA, 5, 0, 0, b"y"), {"again": ""}),
         (wire.packet(WAY, 999, wire.RENDEZVOUS, 6), {"flow": "1:10>2:20", "kind": "3", "again": ""}),
-        (wire.packet(WAY.back(), 1001, wire.ACK, 6, 0, 0), {"acks": "6", "acked_after": "0.200000000", "life_above_mpl": "1", "window_closed": "1"}),
+        (
+            wire.packet(WAY.back(), 1001, wire.ACK, 6, 0, 0),
+            {"acks": "6", "acked_after": "0.200000000", "life_above_mpl": "1", "window_closed": "1"},
+        ),
         (wire.packet(WAY, 1000, wire.CLOSING, 6), {"kind": "4", "version": "2", "life_above_mpl": ""}),
         (wire.packet(WAY, 1000, wire.DATA, 4294967295, 6, 0, b"ab"), {"next": "1", "letters": "be"}),
     ]
@@ -189,7 +212,10 @@ def values(program: str, folder: str) -> bool:
     good = len(rows) == len(steps)
     for at, ((_, wanted), row) in enumerate(zip(steps, rows)):
         there = {name: value for name, value in zip(names, row) if name in wanted}
-        there = {name: "1" if value and name in ("life_above_mpl", "window_closed") else value for name, value in there.items()}
+        there = {
+            name: "1" if value and name in ("life_above_mpl", "window_closed") else value
+            for name, value in there.items()
+        }
         if {k: "True" if v == "1" and k == "again" else v for k, v in there.items()} != wanted:
             print(f"  packet {at + 1}: {there}, not {wanted}")
             good = False
@@ -207,8 +233,20 @@ def trailers(program: str, folder: str) -> bool:
     """What is shown of a frame with a trailer, of a ping, and of a trailer of another version."""
     del program
     trailer = worked_trailer()
-    numbers = {"print": "0xa1b2c3d4", "opening": "0x0000000000000007", "version": "1", "kind": "1", "round": "0",
-               "made": "2000000", "sure": "1999000", "of": "0x0009", "aged": "20", "rounded": "5", "wall": "0", "heard": "3"}
+    numbers = {
+        "print": "0xa1b2c3d4",
+        "opening": "0x0000000000000007",
+        "version": "1",
+        "kind": "1",
+        "round": "0",
+        "made": "2000000",
+        "sure": "1999000",
+        "of": "0x0009",
+        "aged": "20",
+        "rounded": "5",
+        "wall": "0",
+        "heard": "3",
+    }
     ping = trailer[:10] + b"\x12" + trailer[11:]
     other = trailer[:10] + b"\x21" + trailer[11:]
     none = dict.fromkeys(numbers, "")
@@ -232,7 +270,9 @@ def trailers(program: str, folder: str) -> bool:
 
 def main() -> int:
     parser = argparse.ArgumentParser(description=__doc__, formatter_class=argparse.RawDescriptionHelpFormatter)
-    parser.add_argument("program", nargs="?", default=str(ROOT / "crates/deltat/out/deltat"), help="the program (default: %(default)s)")
+    parser.add_argument(
+        "program", nargs="?", default=str(ROOT / "crates/deltat/out/deltat"), help="the program (default: %(default)s)"
+    )
     program = os.path.abspath(parser.parse_args().program)
     if not shutil.which("tshark"):
         print("skipped: tshark isn't there (Debian: tshark)")

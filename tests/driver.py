@@ -2,9 +2,9 @@
 """The same log: tests/library/drive.c runs a script and a trace over libdeltat, and has to write what `deltat retrace`
 writes of them, octet for octet, and end with its status.
 
-`tests/driver.py [PROGRAM] [--count N] [--seed N] [--library ARCHIVE] [--compiler CC] [--under COMMAND] [--keep FOLDER]`.
-The inputs are the scripts and traces of crates/deltat_tests/data that are accepted and ask for no shelf, which the
-library doesn't have, and N random ones: of each four
+`tests/driver.py [PROGRAM] [--count N] [--seed N] [--library ARCHIVE] [--compiler CC] [--under COMMAND] [--keep
+FOLDER]`. The inputs are the scripts and traces of crates/deltat_tests/data that are accepted and ask for no shelf,
+which the library doesn't have, and N random ones: of each four
 
 - one whose datagrams are made up: data, acknowledgements, rendezvous and closing packets of flows to the node, from it
   and past it, with numbers that are the next ones, old ones or any, and octets that are no Deltagram;
@@ -78,16 +78,26 @@ class Numbers:
 
     def line(self) -> str:
         it = self
-        return f"params {it.mpl} {it.r} {it.a} {it.rto} {it.probe} {it.seg} {it.cap} {it.rcap} {it.window} {it.run_limit} {it.start}"
+        return (
+            f"params {it.mpl} {it.r} {it.a} {it.rto} {it.probe}"
+            f" {it.seg} {it.cap} {it.rcap} {it.window} {it.run_limit} {it.start}"
+        )
 
 
     def links(self, chance: random.Random) -> dict[int, tuple[int, int]]:
         """The charge and the pace of each link."""
-        return {1: (chance.choice([0, 0, 1, 50]), chance.choice([0, 0, 0, 5, 100])), 2: (chance.choice([0, 0, 20, 4000]), 0)}
+        return {
+            1: (chance.choice([0, 0, 1, 50]), chance.choice([0, 0, 0, 5, 100])),
+            2: (chance.choice([0, 0, 20, 4000]), 0),
+        }
 
     def size(self, chance: random.Random) -> int:
         """The octets of a send."""
-        return min(chance.choice([1, 5, self.seg, self.seg + 1, 3 * self.seg, chance.randrange(1, 3000)]), 40 * self.seg, 65_536)
+        return min(
+            chance.choice([1, 5, self.seg, self.seg + 1, 3 * self.seg, chance.randrange(1, 3000)]),
+            40 * self.seg,
+            65_536,
+        )
 
     def step(self, chance: random.Random) -> int:
         """How far the clock goes from a reading to the next."""
@@ -119,7 +129,11 @@ class Rows(Numbers):
     """Parameters in which data meet each row of the receive table, and what the rows owe and advertise."""
 
     def __init__(self, chance: random.Random) -> None:
-        self.mpl, self.r, self.a = chance.choice([40, 100, 1000]), chance.choice([50, 300, 3000]), chance.choice([5, 50, 200])
+        self.mpl, self.r, self.a = (
+            chance.choice([40, 100, 1000]),
+            chance.choice([50, 300, 3000]),
+            chance.choice([5, 50, 200]),
+        )
         self.rto, self.probe = chance.choice([10, 100, 500]), chance.choice([1, 18, 100])
         self.seg, self.cap, self.rcap = chance.choice([10, 50, 100]), 512, chance.choice([20, 60, 150, 512])
         self.window, self.run_limit = chance.choice([20, 512]), chance.choice([8, 100, 2**31])
@@ -181,7 +195,11 @@ class Made:
                 self.next[flow] = (number + len(octets)) % 2**32
         else:
             number, run = self.chance.randrange(2**32), wire.RUN
-        flags = 0 if len(octets) > wire.MOST_OF_VERSION_1 and self.chance.random() < 0.1 else run | self.chance.choice([0, wire.BEGIN, wire.END, wire.BEGIN | wire.END])
+        flags = (
+            0
+            if len(octets) > wire.MOST_OF_VERSION_1 and self.chance.random() < 0.1
+            else run | self.chance.choice([0, wire.BEGIN, wire.END, wire.BEGIN | wire.END])
+        )
         return wire.packet(flow, self.life(), wire.DATA, number, flags, 0, octets)
 
     def life(self) -> int:
@@ -190,7 +208,14 @@ class Made:
     def answer(self) -> bytes:
         """An acknowledgement of something that was sent, or of something else."""
         flow = self.chance.choice(OUT)
-        sent = self.chance.choice([0, self.sent[flow], self.chance.randrange(self.sent[flow] + 1), self.numbers.seg * self.chance.randrange(1, 4)])
+        sent = self.chance.choice(
+            [
+                0,
+                self.sent[flow],
+                self.chance.randrange(self.sent[flow] + 1),
+                self.numbers.seg * self.chance.randrange(1, 4),
+            ]
+        )
         number, window = self.number(self.numbers.start + sent), self.chance.choice([0, 1, 500, 4096, 65_536])
         return wire.packet(flow.back(), self.life(), wire.ACK, number, 0, window)
 
@@ -202,7 +227,9 @@ class Made:
             return self.answer()
         if kind < 0.78:
             flow = self.chance.choice(sorted(self.begun) or FLOWS)
-            return wire.packet(flow, self.life(), self.chance.choice([wire.RENDEZVOUS, wire.CLOSING]), self.number(self.next[flow]))
+            return wire.packet(
+                flow, self.life(), self.chance.choice([wire.RENDEZVOUS, wire.CLOSING]), self.number(self.next[flow])
+            )
         if kind < 0.84:
             return self.data(self.chance.choice(PAST))
         return self.spoilt()
@@ -216,7 +243,9 @@ class Made:
         if kind == 1:
             return self.chance.randbytes(self.chance.choice([0, 3, 16, 30, 8223]))
         for _ in range(self.chance.choice([1, 1, 2])):
-            octets[self.chance.choice([0, 1, 2, 3, 4, 7, 16, 17, 26, 29, self.chance.randrange(len(octets))])] = self.chance.choice([0, 1, 2, 3, 4, 7, 255])
+            octets[self.chance.choice([0, 1, 2, 3, 4, 7, 16, 17, 26, 29, self.chance.randrange(len(octets))])] = (
+                self.chance.choice([0, 1, 2, 3, 4, 7, 255])
+            )
         return bytes(octets)
 
 
@@ -253,12 +282,16 @@ def made(chance: random.Random, kind: type[Numbers] = Numbers) -> list[str]:
         if chance.random() < 0.4:
             last = max(last, greatest - first + chance.choice([0, 0, 3, -50]))
             commands.append(f"at {last} {command(chance, heard)}")
-    return done(chance, script(numbers.line(), again, numbers.links(chance), commands), trace, last, (first, greatest - first))
+    return done(
+        chance, script(numbers.line(), again, numbers.links(chance), commands), trace, last, (first, greatest - first)
+    )
 
 
 def command(chance: random.Random, heard: Made) -> str:
     if chance.random() < 0.4:
-        return f"read {word(chance.choice([*FLOWS, *FLOWS, wire.Flow(8, 1, ME, 1)]))} {chance.choice([1, 3, 100, 65_536])}"
+        return (
+            f"read {word(chance.choice([*FLOWS, *FLOWS, wire.Flow(8, 1, ME, 1)]))} {chance.choice([1, 3, 100, 65_536])}"
+        )
     flow = chance.choice(OUT[:1] + OUT)
     octets = chance.randbytes(heard.numbers.size(chance))
     heard.sent[flow] += len(octets)
@@ -299,11 +332,24 @@ class Network:
         self.numbers, self.again = kind(chance), chance.random() < 0.15
         self.links = self.numbers.links(chance)
         it = self.numbers
-        params = deltat.Params(it.mpl, it.r, it.a, it.rto, it.probe, it.seg, it.cap, it.rcap, it.window, it.run_limit, it.start)
+        params = deltat.Params(
+            it.mpl, it.r, it.a, it.rto, it.probe, it.seg, it.cap, it.rcap, it.window, it.run_limit, it.start
+        )
         mine = [deltat.Link(link, *costs) for link, costs in self.links.items()]
-        self.nodes = {ME: deltat.Node(ME, params, mine, {2: 1, 3: 2, FAR: 1}, start=deltat.Start.AGAIN if self.again else deltat.Start.FIRST, at=0)}
+        self.nodes = {
+            ME: deltat.Node(
+                ME,
+                params,
+                mine,
+                {2: 1, 3: 2, FAR: 1},
+                start=deltat.Start.AGAIN if self.again else deltat.Start.FIRST,
+                at=0,
+            )
+        }
         for link, (number, other) in enumerate(((2, 3), (3, 2)), 1):
-            self.nodes[number] = deltat.Node(number, params, [deltat.Link(1, *self.links[link])], {ME: 1, other: 1}, start=deltat.Start.FIRST, at=0)
+            self.nodes[number] = deltat.Node(
+                number, params, [deltat.Link(1, *self.links[link])], {ME: 1, other: 1}, start=deltat.Start.FIRST, at=0
+            )
         self.under_way: list[tuple[int, int, int, int, bytes]] = []
         self.commands: list[str] = []
         self.trace = ["@ 0"]
@@ -318,7 +364,9 @@ class Network:
 
     def send(self, number: int) -> None:
         flow = self.chance.choice([it for it in OUT[:2] + FLOWS + PAST[:1] if it.from_node == number])
-        octets, marks = self.chance.randbytes(self.numbers.size(self.chance)), self.chance.choice(["be", "be", "b", "e", "-"])
+        octets, marks = self.chance.randbytes(self.numbers.size(self.chance)), self.chance.choice(
+            ["be", "be", "b", "e", "-"]
+        )
         try:
             way = self.deltat.Flow(flow.from_node, flow.from_port, flow.to_node, flow.to_port)
             self.nodes[number].send(way, octets, "b" in marks, "e" in marks, self.at)
@@ -328,7 +376,9 @@ class Network:
             self.commands.append(f"at {self.at} send {word(flow)} {marks} {octets.hex()}")
 
     def read(self, number: int) -> None:
-        flow, most = self.chance.choice([it for it in FLOWS + OUT[:2] + PAST[:1] if it.to_node == number]), self.chance.choice([1, 100, 65_536])
+        flow, most = self.chance.choice(
+            [it for it in FLOWS + OUT[:2] + PAST[:1] if it.to_node == number]
+        ), self.chance.choice([1, 100, 65_536])
         self.nodes[number].read(self.deltat.Flow(flow.from_node, flow.from_port, flow.to_node, flow.to_port), self.at)
         if number == ME:
             self.commands.append(f"at {self.at} read {word(flow)} {most}")
@@ -342,8 +392,14 @@ class Network:
         elif what < 0.45:
             self.read(number)
         else:
-            ahead = [it[0] for it in self.under_way[:1]] + [it.wake for it in self.nodes.values() if it.wake is not None]
-            self.at = max(self.at, min(ahead, default=self.at + 1)) if self.chance.random() < 0.8 else self.at + self.chance.choice([1, 20, self.numbers.rto])
+            ahead = [it[0] for it in self.under_way[:1]] + [
+                it.wake for it in self.nodes.values() if it.wake is not None
+            ]
+            self.at = (
+                max(self.at, min(ahead, default=self.at + 1))
+                if self.chance.random() < 0.8
+                else self.at + self.chance.choice([1, 20, self.numbers.rto])
+            )
         for it in self.nodes.values():
             it.tick(self.at)
         for it in self.nodes:
@@ -395,7 +451,11 @@ def worked() -> Iterator[tuple[str, bytes]]:
     for path in sorted(ROWS.glob("*.in")):
         text = path.read_bytes()
         is_refused = path.with_suffix(".out").read_bytes().startswith(b"line ")
-        if b"\ntrace\n" in text and not is_refused and not any(line.startswith(b"shelf ") for line in text.split(b"\n")):
+        if (
+            b"\ntrace\n" in text
+            and not is_refused
+            and not any(line.startswith(b"shelf ") for line in text.split(b"\n"))
+        ):
             yield path.stem, text
 
 
@@ -403,7 +463,9 @@ def drawn_input(seed: int, number: int) -> tuple[str, bytes]:
     """The random input of that number, and its name: one of four kinds, in turn."""
     chance = random.Random(f"{seed} {number}")
     kind = number % 4
-    lines = changed(chance, chance.choice([made, heard, rows])(chance)) if kind == 3 else (made, heard, rows)[kind](chance)
+    lines = (
+        changed(chance, chance.choice([made, heard, rows])(chance)) if kind == 3 else (made, heard, rows)[kind](chance)
+    )
     return f"{('made', 'heard', 'rows', 'changed')[kind]}-{seed}-{number}", "".join(f"{it}\n" for it in lines).encode()
 
 
@@ -421,8 +483,11 @@ def ran(words: list[str], text: bytes) -> tuple[int, bytes]:
     return done_by.returncode, done_by.stdout
 
 
-def compared(drivers: list[list[str]], program: str, at: int, name: str, text: bytes) -> tuple[str, bytes, tuple[int, bytes], tuple[int, bytes]]:
-    """What the program makes of an input, and what the driver does: of 20 inputs one is for that with the sanitizers."""
+def compared(
+    drivers: list[list[str]], program: str, at: int, name: str, text: bytes
+) -> tuple[str, bytes, tuple[int, bytes], tuple[int, bytes]]:
+    """What the program makes of an input, and what the driver does: of 20 inputs one is for that with the
+    sanitizers."""
     driver = drivers[-1] if at % 20 == 0 else drivers[0]
     return name, text, ran([program, "retrace"], text), ran(driver, text)
 
@@ -439,11 +504,26 @@ def built(given: argparse.Namespace, folder: str) -> list[list[str]]:
     if compiler is None:
         skip("there is no compiler of C")
     source, programs = TOP / "tests" / "library" / "drive.c", [f"{folder}/drive", f"{folder}/sanitized"]
-    words = [compiler, "-std=c99", "-O2", "-g", "-Wall", "-Wextra", "-Werror", "-pedantic", f"-I{TOP / 'include'}", str(source), str(given.library), "-o"]
+    words = [
+        compiler,
+        "-std=c99",
+        "-O2",
+        "-g",
+        "-Wall",
+        "-Wextra",
+        "-Werror",
+        "-pedantic",
+        f"-I{TOP / 'include'}",
+        str(source),
+        str(given.library),
+        "-o",
+    ]
     subprocess.run([*words, programs[0]], check=True)
     if given.under:
         return [[given.under, programs[0]]]
-    sanitized = subprocess.run([*words, programs[1], "-fsanitize=address,undefined", "-fno-sanitize-recover=all"], capture_output=True)
+    sanitized = subprocess.run(
+        [*words, programs[1], "-fsanitize=address,undefined", "-fno-sanitize-recover=all"], capture_output=True
+    )
     return [[it] for it in (programs if sanitized.returncode == 0 else programs[:1])]
 
 
@@ -452,10 +532,17 @@ def main() -> int:
     reads.add_argument("program", nargs="?", default=str(PROGRAM), help="the program (%(default)s)")
     reads.add_argument("--count", type=int, default=10_000, help="how many random inputs (%(default)s)")
     reads.add_argument("--seed", type=int, default=1, help="what they are drawn from (%(default)s)")
-    reads.add_argument("--library", type=pathlib.Path, default=LIBRARY, metavar="ARCHIVE", help="the archive (%(default)s)")
+    reads.add_argument(
+        "--library", type=pathlib.Path, default=LIBRARY, metavar="ARCHIVE", help="the archive (%(default)s)"
+    )
     reads.add_argument("--compiler", metavar="CC", help="compile the driver by this (gcc or clang)")
     reads.add_argument("--under", metavar="COMMAND", help="run the driver by this, as an emulator")
-    reads.add_argument("--keep", type=pathlib.Path, metavar="FOLDER", help="keep the inputs that differ there (a new folder below /tmp)")
+    reads.add_argument(
+        "--keep",
+        type=pathlib.Path,
+        metavar="FOLDER",
+        help="keep the inputs that differ there (a new folder below /tmp)",
+    )
     given = reads.parse_args()
     if not os.access(given.program, os.X_OK):
         skip(f"there is no program {given.program}: ./build")
@@ -477,13 +564,20 @@ def main() -> int:
                     given.keep = given.keep or pathlib.Path(tempfile.mkdtemp(prefix="deltat-driver-"))
                     given.keep.mkdir(parents=True, exist_ok=True)
                     (given.keep / f"{name}.in").write_bytes(text)
-                    why = f"status {right[0]}, and by the library {found[0]}" if right[1] == found[1] else first_difference(right[1], found[1])
+                    why = (
+                        f"status {right[0]}, and by the library {found[0]}"
+                        if right[1] == found[1]
+                        else first_difference(right[1], found[1])
+                    )
                     print(f"{given.keep / name}.in: {why}", flush=True)
             if differ > 20:
                 break
     told = ", ".join(f"{count} end with {status}" for status, count in sorted(statuses.items()))
     print(", ".join(f"{count} {it}" for it, count in words.most_common()))
-    print(f"{sum(statuses.values())} inputs ({told}), {lines} lines, {differ} differ; seed {given.seed}, {time.monotonic() - begun:.0f} s")
+    print(
+        f"{sum(statuses.values())} inputs ({told}), {lines} lines, {differ} differ; seed {given.seed},"
+        f" {time.monotonic() - begun:.0f} s"
+    )
     return 1 if differ or not given.count else 0
 
 

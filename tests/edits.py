@@ -1,16 +1,18 @@
 #!/usr/bin/env python3
 """Tries each planted bug by itself: `tests/edits.py [CRATE ..]`, all crates where none is named.
 
-crates/CRATE/must-fail/planted.edit has a crate's bugs, each below a line `# NAME`. The gate plants all of them at once, so
-that one check from nothing does for a crate, and is content where that is refused. Here each is an edit of its own, in a
-copy of the repository, and has to be refused for what a contract says. Where the gate of the kit takes crates' names, what is proved
-already on this machine isn't proved again; each crate takes a check from nothing, and some 15 to 60 s of processor for each bug.
+crates/CRATE/must-fail/planted.edit has a crate's bugs, each below a line `# NAME`. The gate plants all of them at once,
+so that one check from nothing does for a crate, and is content where that is refused. Here each is an edit of its own,
+in a copy of the repository, and has to be refused for what a contract says. Where the gate of the kit takes crates'
+names, what is proved already on this machine isn't proved again; each crate takes a check from nothing, and some 15 to
+60 s of processor for each bug.
 
-What stands above the first bug turns off modules that no bug needs, so that a check costs less. It goes with each bug. With no bug
-it has to be proved: then what is refused is the bug, and nothing that was turned off. That takes a check from nothing more.
+What stands above the first bug turns off modules that no bug needs, so that a check costs less. It goes with each bug.
+With no bug it has to be proved: then what is refused is the bug, and nothing that was turned off. That takes a check
+from nothing more.
 
-Ends with 1 where a bug isn't refused, or only since a proof names what it took away, or where what turns off is refused by itself;
-with 77 where there is no `rt`.
+Ends with 1 where a bug isn't refused, or only since a proof names what it took away, or where what turns off is refused
+by itself; with 77 where there is no `rt`.
 
 In tests/all: dt_cases, 900 s."""
 import pathlib
@@ -59,7 +61,15 @@ def tried(top: pathlib.Path, crates: list[str]) -> dict[tuple[str, str], str]:
     """What the toolchain says of each edit of these crates, each line as it comes."""
     found = {}
     words = ["rt", "ci" if takes_names() else "must-fail", *crates]
-    with subprocess.Popen(words, cwd=top, stdin=subprocess.DEVNULL, stdout=subprocess.PIPE, stderr=subprocess.STDOUT, text=True, errors="replace") as gate:
+    with subprocess.Popen(
+        words,
+        cwd=top,
+        stdin=subprocess.DEVNULL,
+        stdout=subprocess.PIPE,
+        stderr=subprocess.STDOUT,
+        text=True,
+        errors="replace",
+    ) as gate:
         for line in gate.stdout:
             if it := TRIED.match(line):
                 found[it[1], it[2]] = it[3]
@@ -91,7 +101,11 @@ def main() -> int:
         said = tried(top, crates)
     wrong = [(crate, name) for crate, name in wanted if not is_right(name, said.get((crate, name), ""))]
     for crate, name in wrong:
-        print(f"{crate}: what turns off isn't proved by itself" if name == NO_BUG else f"not refused by a contract: {crate}/{name}")
+        print(
+            f"{crate}: what turns off isn't proved by itself"
+            if name == NO_BUG
+            else f"not refused by a contract: {crate}/{name}"
+        )
     of_bugs, let_through = ([it for it in them if it[1] != NO_BUG] for them in (wanted, wrong))
     print(f"{len(of_bugs) - len(let_through)} of {len(of_bugs)} bugs are refused, each by itself")
     return 1 if wrong else 0

@@ -39,7 +39,9 @@ def script(me: int, life: str, local: int, peer: int, commands: list[str], line:
 
 def audited(deltat: str, paths: list[Path]) -> tuple[int, str]:
     """The status of the tool, and what it says."""
-    ran = subprocess.run([sys.executable, str(TOOL), *map(str, paths), "--deltat", deltat], capture_output=True, text=True, check=False)
+    ran = subprocess.run(
+        [sys.executable, str(TOOL), *map(str, paths), "--deltat", deltat], capture_output=True, text=True, check=False
+    )
     return ran.returncode, ran.stdout.strip() + ("" if ran.returncode < 2 else ran.stderr.strip())
 
 
@@ -92,7 +94,13 @@ class World:
         links = ["link 1 1 2 50 0", "link 2 2 1 50 0", "link 3 2 3 40 0", "link 4 3 2 40 0"]
         routes = ["route 1 2 1", "route 1 3 1", "route 2 1 2", "route 2 3 3", "route 3 2 4", "route 3 1 4"]
         stations = [f"station {n} {self.chance.randrange(1000)}" for n in (1, 2, 3)]
-        self.lines = [f"params 1000 3000 200 500 800 40 4096 4096 {window} 2147483648 {start}", *stations, *links, *routes, "go"]
+        self.lines = [
+            f"params 1000 3000 200 500 800 40 4096 4096 {window} 2147483648 {start}",
+            *stations,
+            *links,
+            *routes,
+            "go",
+        ]
         self.now = 0
 
     def events(self, copies: dict[int, tuple[int, int]]) -> list[str]:
@@ -100,7 +108,10 @@ class World:
         chance, out = self.chance, []
         for _ in range(chance.randrange(1, 4)):
             flow = chance.choice(["1:10>2:20", "1:10>3:20", "3:20>1:10", "2:5>1:6"])
-            out.append(f"send {flow} {chance.choice(['be', 'b', '-', 'e'])} {chance.randbytes(chance.choice([1, 5, 5, 90])).hex()}")
+            out.append(
+                "send"
+                f" {flow} {chance.choice(['be', 'b', '-', 'e'])} {chance.randbytes(chance.choice([1, 5, 5, 90])).hex()}"
+            )
         moment = self.now
         for copy, (since, charge) in copies.items():
             if since + charge >= moment and chance.random() < 0.75:
@@ -155,7 +166,9 @@ def worlds(deltat: str, count: int) -> tuple[bool, str]:
     accepted = sum(log.count(" accepted ") for log in logs)
     restarts = sum(log.count(" restarted ") for log in logs)
     wrong = [f"world {seed}: {said}" for seed, (holds, said) in enumerate(found, 1) if not holds]
-    return accepted > 5 * count and not wrong, "; ".join([f"{count} worlds, {accepted} lines accepted, {restarts} restarts", *wrong])
+    return accepted > 5 * count and not wrong, "; ".join(
+        [f"{count} worlds, {accepted} lines accepted, {restarts} restarts", *wrong]
+    )
 
 
 def changed(deltat: str) -> list[tuple[str, bool, str]]:
@@ -178,7 +191,9 @@ def changed(deltat: str) -> list[tuple[str, bool, str]]:
             paths[1].write_text("\n".join(text) + "\n")
             status, said = audited(deltat, paths)
             told[name].append("" if status == 1 and ("breaks" in said or "stray" in said) else said)
-    return [(name, bool(found) and not any(found), f"{len(found)} logs{''.join(found)}") for name, found in told.items()]
+    return [
+        (name, bool(found) and not any(found), f"{len(found)} logs{''.join(found)}") for name, found in told.items()
+    ]
 
 
 def pair(deltat: str) -> tuple[bool, str]:
@@ -227,17 +242,28 @@ def again(deltat: str) -> tuple[bool, str]:
 
 def first(deltat: str) -> tuple[bool, str]:
     status, said, count = restarted(deltat, "first")
-    found = re.search(r"^no order: \S*2-second.log:\d+: accepted 1:10>2:20 0 5 run: all that was sent with this number", said)
+    found = re.search(
+        r"^no order: \S*2-second.log:\d+: accepted 1:10>2:20 0 5 run: all that was sent with this number", said
+    )
     flaw = re.search(r"2-second.log:\d+: breaks S1: ", said)
-    return status == 1 and count == 2 and bool(found and flaw), f"read {count} times; {said.splitlines()[-1].rpartition('/')[2]}"
+    return (
+        status == 1 and count == 2 and bool(found and flaw),
+        f"read {count} times; {said.splitlines()[-1].rpartition('/')[2]}",
+    )
 
 
 def sender(deltat: str) -> tuple[bool, str]:
     with tempfile.TemporaryDirectory() as folder, Between(lambda node, octets: 1) as between:
         first_log, second_log, receiver_log = (Path(folder) / name for name in ("1.log", "1-second.log", "2.log"))
         reads = [f"at {at} read 1:10>2:20 100" for at in range(20, 3500, 20)]
-        receiver = start(deltat, script(2, "first", between.nodes[1], between.port(2), [*reads, "at 3600 stop"]), out=receiver_log.open("wb"))
-        text = script(1, "first", between.nodes[0], between.port(1), [f"at 300 send 1:10>2:20 be {HELLO}", "at 1500 stop"])
+        receiver = start(
+            deltat,
+            script(2, "first", between.nodes[1], between.port(2), [*reads, "at 3600 stop"]),
+            out=receiver_log.open("wb"),
+        )
+        text = script(
+            1, "first", between.nodes[0], between.port(1), [f"at 300 send 1:10>2:20 be {HELLO}", "at 1500 stop"]
+        )
         sending = start(deltat, text, out=first_log.open("wb"))
         wait_for(first_log, " settled ", 5)
         sending.kill()
@@ -255,10 +281,22 @@ def twins(deltat: str) -> tuple[bool, str]:
     with tempfile.TemporaryDirectory() as folder:
         paths = [Path(folder) / name for name in ("1.log", "1-twin.log", "2.log")]
         ports = [own_port(), own_port(), own_port()]
-        lines = [QUICK, "me 2 first", f"local {HOST}:{ports[2]}", f"peer 1 {HOST}:{ports[0]} 50 0", f"peer 2 {HOST}:{ports[1]} 50 0", "route 1 2", "go"]
-        receiver = start(deltat, "\n".join([*lines, "at 1900 read 1:10>2:20 100", "at 2000 stop"]) + "\n", out=paths[2].open("wb"))
+        lines = [
+            QUICK,
+            "me 2 first",
+            f"local {HOST}:{ports[2]}",
+            f"peer 1 {HOST}:{ports[0]} 50 0",
+            f"peer 2 {HOST}:{ports[1]} 50 0",
+            "route 1 2",
+            "go",
+        ]
+        receiver = start(
+            deltat, "\n".join([*lines, "at 1900 read 1:10>2:20 100", "at 2000 stop"]) + "\n", out=paths[2].open("wb")
+        )
         nodes = []
-        sends = [f"at 300 send 1:10>2:20 be {HELLO}", "at 400 send 1:10>2:20 be 20796f75"], ["at 900 send 1:10>2:20 be 776f726c6477696465"]
+        sends = [f"at 300 send 1:10>2:20 be {HELLO}", "at 400 send 1:10>2:20 be 20796f75"], [
+            "at 900 send 1:10>2:20 be 776f726c6477696465"
+        ]
         for i in (0, 1):
             text = script(1, "first", ports[i], ports[2], [*sends[i], "at 1500 stop"])
             nodes.append(start(deltat, text, out=paths[i].open("wb")))
@@ -266,7 +304,10 @@ def twins(deltat: str) -> tuple[bool, str]:
             node.wait(20)
         status, said = audited(deltat, paths)
         settled = " settled " in paths[1].read_text() and "776f726c64" not in paths[2].read_text()
-    return status == 1 and settled and "1-twin.log:" in said and "breaks S4" in said, said.splitlines()[-1].rpartition("/")[2]
+    return (
+        status == 1 and settled and "1-twin.log:" in said and "breaks S4" in said,
+        said.splitlines()[-1].rpartition("/")[2],
+    )
 
 
 def told_of(paths: list[Path]) -> tuple[int, str]:
@@ -287,27 +328,52 @@ def notes(deltat: str) -> list[tuple[str, bool, str]]:
         stands = [(int(at) if int(at) < middle else max(middle, int(at) - 5000), text) for at, text in lines]
         paths[1].write_text("".join(f"{at} {text}\n" for at, text in stands))
         status, said = told_of(paths)
-        right = re.search(r"^note: the clocks of node 1 and node 2 don't fit by 49[0-9]{2} ms: .*; one stood still, or goes at another rate$", said, re.MULTILINE)
+        right = re.search(
+            (
+                r"^note: the clocks of node 1 and node 2 don't fit by 49[0-9]{2} ms: .*; one stood still, or goes at"
+                r" another rate$"
+            ),
+            said,
+            re.MULTILINE,
+        )
         found.append(("stood", status == 0 and bool(right), "" if right else said))
         number = next(text.split(" ")[3] for _, text in lines if " acked " in text)
         kept = [it for it in lines if not re.match(f"2 (acked|replied) 1:10>2:20 {number} ", it[1])]
         forged = [*kept[:-1], [kept[-2][0], "2 accepted 1:10>2:20 77777777 5 on"], kept[-1]]
         paths[1].write_text("".join(f"{at} {text}\n" for at, text in forged))
         status, said = told_of(paths)
-        right = "accepted 1:10>2:20 77777777 5 on: nothing with this number and length was sent" in said and "no log has that acknowledgement" in said
+        right = (
+            "accepted 1:10>2:20 77777777 5 on: nothing with this number and length was sent" in said
+            and "no log has that acknowledgement" in said
+        )
         found.append(("forged", status == 1 and right, "" if right else said[:300]))
         status, said = told_of(paths[:1])
-        found.append(("missing", (status, said) == (0, "note: no log of node 2 is given, so the flow 1:10>2:20 isn't judged\n"), said.strip()))
+        found.append(
+            (
+                "missing",
+                (status, said) == (0, "note: no log of node 2 is given, so the flow 1:10>2:20 isn't judged\n"),
+                said.strip(),
+            )
+        )
     return found
 
 
 BAD = {
     "a trace": ("@ 0\n< -\n", "x.log:1: this is a line of a trace; run the trace with `retrace`, and give its log"),
-    "a replay": ("0 1 took 1:1>2:2 5\n0 lost 0\n", "x.log:2: this is a line of a log of `replay`; give that log to `deltat audit` itself"),
-    "two nodes": ("0 1 took 1:1>2:2 5\n0 2 nothing 1:1>2:2\n", "x.log:2: this is a line of node 2, and the earlier lines are of node 1; give a log for each node"),
+    "a replay": (
+        "0 1 took 1:1>2:2 5\n0 lost 0\n",
+        "x.log:2: this is a line of a log of `replay`; give that log to `deltat audit` itself",
+    ),
+    "two nodes": (
+        "0 1 took 1:1>2:2 5\n0 2 nothing 1:1>2:2\n",
+        "x.log:2: this is a line of node 2, and the earlier lines are of node 1; give a log for each node",
+    ),
     "a refused script": ("line 3: word\n", "x.log:1: the node's script was refused: line 3: word; leave this log out"),
     "other text": ("hello\n", "x.log:1: this isn't a line of a log: hello; give the log of a node"),
-    "a short line": ("0 1 sent 1:1>2:2 0\n", "x.log:1: this isn't a line of a log: 0 1 sent 1:1>2:2 0; give the log of a node"),
+    "a short line": (
+        "0 1 sent 1:1>2:2 0\n",
+        "x.log:1: this isn't a line of a log: 0 1 sent 1:1>2:2 0; give the log of a node",
+    ),
 }
 
 
@@ -318,9 +384,13 @@ def bad(deltat: str) -> list[tuple[str, bool, str]]:
         for name, (text, right) in BAD.items():
             path.write_text(text)
             status, said = audited(deltat, [path])
-            found.append((name, (status, said) == (2, f"fieldaudit.py: {folder}/{right}"), "" if said.endswith(right) else said))
+            found.append(
+                (name, (status, said) == (2, f"fieldaudit.py: {folder}/{right}"), "" if said.endswith(right) else said)
+            )
         status, said = audited(deltat, [Path(folder) / "y.log"])
-        found.append(("no file", (status, said) == (2, f"fieldaudit.py: {folder}/y.log: No such file or directory"), ""))
+        found.append(
+            ("no file", (status, said) == (2, f"fieldaudit.py: {folder}/y.log: No such file or directory"), "")
+        )
     return found
 
 
@@ -331,7 +401,14 @@ def main() -> int:
     with ThreadPoolExecutor(len(live)) as pool:
         running = {name: pool.submit(it, deltat) for name, it in live.items()}
         found = [(name, *it.result()) for name, it in running.items()]
-    found += [("rows", *rows(deltat)), ("make", *made(deltat)), ("worlds", *worlds(deltat, count)), *changed(deltat), *notes(deltat), *bad(deltat)]
+    found += [
+        ("rows", *rows(deltat)),
+        ("make", *made(deltat)),
+        ("worlds", *worlds(deltat, count)),
+        *changed(deltat),
+        *notes(deltat),
+        *bad(deltat),
+    ]
     return tell(found)
 
 

@@ -39,7 +39,9 @@ def sections(page: pathlib.Path) -> dict[str, str]:
 
 
 def bench(page: pathlib.Path, *words: str) -> int:
-    return subprocess.run([sys.executable, TOP / "bench" / "all", "--page", page, *words], capture_output=True, check=False).returncode
+    return subprocess.run(
+        [sys.executable, TOP / "bench" / "all", "--page", page, *words], capture_output=True, check=False
+    ).returncode
 
 
 def main() -> int:
@@ -51,7 +53,12 @@ def main() -> int:
         slow.chmod(0o755)
         first = bench(page, "--gate-log", str(log))
         told = sections(page)
-        page.write_text(page.read_text().replace("## Calls (`calls`)\n\nNot measured yet.", "## Calls (`calls`)\n\nMeasured long ago:\n\n```\n1 call\n```"))
+        page.write_text(
+            page.read_text().replace(
+                "## Calls (`calls`)\n\nNot measured yet.",
+                "## Calls (`calls`)\n\nMeasured long ago:\n\n```\n1 call\n```",
+            )
+        )
         failed = bench(page, "--only", "calls", "large", "--program", str(slow))
         after = sections(page)
         second = bench(page, "--gate-two-log", str(log))
@@ -63,9 +70,20 @@ def main() -> int:
         strange = [bench(page, "--only", "nothing"), bench(page, "--log", f"nothing={soak}")]
     cases = {
         "the gate's log": first == 0 and f"```\n{TOLD}```" in told["gate"] and "Not measured yet." in told["nodes"],
-        "a command that fails": failed == 1 and "1 call" in after["calls"] and "Not measured yet." in after["large"] and after["gate"] == told["gate"],
-        "another log": second == 0 and TOLD in last["gate_two"] and {**last, "gate_two": ""} == {**after, "gate_two": ""},
-        "the log of another section": third == 0 and "```\n12 rounds, 0 faults; seed 1\n```" in logged["soak"] and {**logged, "soak": ""} == {**last, "soak": ""},
+        "a command that fails": (
+            failed == 1
+            and "1 call" in after["calls"]
+            and "Not measured yet." in after["large"]
+            and after["gate"] == told["gate"]
+        ),
+        "another log": (
+            second == 0 and TOLD in last["gate_two"] and {**last, "gate_two": ""} == {**after, "gate_two": ""}
+        ),
+        "the log of another section": (
+            third == 0
+            and "```\n12 rounds, 0 faults; seed 1\n```" in logged["soak"]
+            and {**logged, "soak": ""} == {**last, "soak": ""}
+        ),
         "a section that isn't there": strange == [2, 2],
     }
     for name in (it for it, holds in cases.items() if not holds):

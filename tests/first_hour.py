@@ -114,7 +114,9 @@ def process(code: str, *words: object, preload: str = "") -> Iterator[subprocess
     head += f"sys.argv[1:1] = ['--bindings', {given.bindings!r}]\n"
     text = head + "words, sys.argv[3:] = sys.argv[3:], []\nfrom first_hour import *\n" + code
     env = {**os.environ, "LD_PRELOAD": preload}
-    with subprocess.Popen([sys.executable, "-c", text, *map(str, words)], stdout=subprocess.PIPE, text=True, env=env) as it:
+    with subprocess.Popen(
+        [sys.executable, "-c", text, *map(str, words)], stdout=subprocess.PIPE, text=True, env=env
+    ) as it:
         try:
             yield it
         finally:
@@ -218,7 +220,9 @@ def state_refuses() -> None:
     state.note_packet = refuse
     with socket.socket(socket.AF_INET, socket.SOCK_DGRAM) as peer:
         peer.bind((HOST, 0))
-        udp = deltat.Udp(deltat.Node(1, PARAMS, LINKS, {2: 1}, state=state), (HOST, own_port()), {2: peer.getsockname()}, watch=False)
+        udp = deltat.Udp(
+            deltat.Node(1, PARAMS, LINKS, {2: 1}, state=state), (HOST, own_port()), {2: peer.getsockname()}, watch=False
+        )
         peer.sendto(bytes(40), udp.socket.getsockname())
         for _ in range(2):
             with raises(deltat.StateError, "the disk is full"):
@@ -293,7 +297,10 @@ def forked() -> None:
                     raise type(why)(*why.args) from None
                 raise Wrong(f"{name} doesn't raise")
         holds(
-            client.socket.fileno() < 0 and client.node._exports.get_counts(memory, sized(NodeCounts)) == deltat.Status.NOT_OPEN,
+            (
+                client.socket.fileno() < 0
+                and client.node._exports.get_counts(memory, sized(NodeCounts)) == deltat.Status.NOT_OPEN
+            ),
             "the child's copies are open",
         )
         for it in (client, plain, record):
@@ -458,7 +465,9 @@ def given_up_is_kept() -> None:
 
 def other_link() -> None:
     """a node's link isn't number 1: its socket finds it, and one that is named wrongly is refused"""
-    nodes = [deltat.Node(it, PARAMS, [deltat.Link(7, charge=274)], {3 - it: 7}, start=deltat.Start.FIRST) for it in (1, 2)]
+    nodes = [
+        deltat.Node(it, PARAMS, [deltat.Link(7, charge=274)], {3 - it: 7}, start=deltat.Start.FIRST) for it in (1, 2)
+    ]
     one, two, ports = pair_of_udp(*nodes)
     with one, two:
         one.send(CALL, b"hello")
@@ -501,7 +510,8 @@ static int read_clock(clockid_t clock, struct timespec *at) { return (int)syscal
 
 static void stop(void) {
     struct timespec at;
-    struct sockaddr_in there = {.sin_family = AF_INET, .sin_port = htons(to), .sin_addr.s_addr = htonl(INADDR_LOOPBACK)};
+    struct sockaddr_in there = {.sin_family = AF_INET, .sin_port = htons(to)};
+    there.sin_addr.s_addr = htonl(INADDR_LOOPBACK);
     char octets[40] = {0};
     read_clock(CLOCK_BOOTTIME, &at);
     came = at.tv_sec * 1e3 + at.tv_nsec / 1e6;
@@ -550,7 +560,8 @@ def stopped_at(place, before, stamps):
                 udp.poll(0.001)
     came = library.came_at()
     # (a moment is rounded down, and what was waited is rounded up)
-    young = [f"{at - waited - came:.0f} ms too young at reading {place}" for at, waited in node.noted if at - waited > came + 0.5]
+    ages = [at - waited - came for at, waited in node.noted]
+    young = [f"{it:.0f} ms too young at reading {place}" for it in ages if it > 0.5]
     return len(node.noted), young
 
 stops = [stopped_at(place, before, stamps) for stamps in (1, 0) for before in (1, 0) for place in range(14)]
@@ -604,7 +615,9 @@ def bad_replies() -> None:
     bad = {b"text": "text", b"number": 5, b"long": bytes(65_530)}
 
     async def main(log: Lines) -> None:
-        client, server, _ = pair_of_udp(caller_of(1, 2), server_of(2, [1], deltat.ServiceLimits(10, 3, 3)), deltat.AsyncUdp)
+        client, server, _ = pair_of_udp(
+            caller_of(1, 2), server_of(2, [1], deltat.ServiceLimits(10, 3, 3)), deltat.AsyncUdp
+        )
         calls, served = deltat.AsyncCalls(client), deltat.AsyncCalls(server)
 
         @served.on(20)
@@ -655,7 +668,9 @@ def one_at_a_time() -> None:
     """a service has room for one request, and 30 come at once: each reply lets the next one in, at once"""
 
     async def main() -> float:
-        client, server, _ = pair_of_udp(caller_of(1, 2), server_of(2, [1], deltat.ServiceLimits(10, 1, 1)), deltat.AsyncUdp)
+        client, server, _ = pair_of_udp(
+            caller_of(1, 2), server_of(2, [1], deltat.ServiceLimits(10, 1, 1)), deltat.AsyncUdp
+        )
         calls, served = deltat.AsyncCalls(client), deltat.AsyncCalls(server)
 
         @served.on(20)
@@ -835,7 +850,9 @@ def background_work() -> None:
             time.sleep(2)
         came = two.poll(0)
         asking.join()
-        kinds = [it.kind.name for it in told if it.kind in (deltat.ReportKind.ACKNOWLEDGED, deltat.ReportKind.UNCERTAIN)]
+        kinds = [
+            it.kind.name for it in told if it.kind in (deltat.ReportKind.ACKNOWLEDGED, deltat.ReportKind.UNCERTAIN)
+        ]
         holds(kinds == ["ACKNOWLEDGED"], f"the reports are {kinds}")
         holds([it.octets for it in came] == [b"meanwhile"], f"{came} came")
 
@@ -843,7 +860,8 @@ def background_work() -> None:
 ECHO = """
 async def main():
     params = PATIENT if words[2:] == ["patient"] else PARAMS
-    node = deltat.Service(2, 1, params, LINKS, {1: 1}, start=deltat.Start.FIRST, limits=deltat.ServiceLimits(10, 4000, 4000))
+    limits = deltat.ServiceLimits(10, 4000, 4000)
+    node = deltat.Service(2, 1, params, LINKS, {1: 1}, start=deltat.Start.FIRST, limits=limits)
     node.set_port(20, deltat.PortKind.SERVICE)
     node.set_port(21, deltat.PortKind.SERVICE)
     async with deltat.AsyncUdp(node, (HOST, int(words[0])), {1: (HOST, int(words[1]))}) as udp:

@@ -87,24 +87,51 @@ BAD = [
     ("x", "it isn't valid TOML: Expected '=' after a key in a key/value pair (at end of document)"),
     ("", "there is no node or no link; a network needs both"),
     ("[net]\n", "unknown table: net; the tables are [network], [[node]] and [[link]]"),
-    (TWO.replace("round_trip", "roundtrip"), "network: unknown key: roundtrip; the keys are round_trip, drift, tries, room, shelf, stop"),
+    (
+        TWO.replace("round_trip", "roundtrip"),
+        "network: unknown key: roundtrip; the keys are round_trip, drift, tries, room, shelf, stop",
+    ),
     (TWO.replace("shelf = 0", "shelf = 65"), "network: shelf is 65; it must be a whole number from 0 to 64"),
     (TWO.replace("shelf = 0", "shelf = 0.5"), "network: shelf is 0.5; it must be a whole number from 0 to 64"),
     (TWO.replace("delay = 250", "delay = -1"), "link 1: delay is -1; it must be a number from 0 to 86400000"),
     (TWO.replace("delay = 250\n", ""), "link 1: delay is missing"),
-    (TWO.replace("number = 2", "number = 1"), "node 2: 'b', number 1, has the name or number of 'a', number 1; give it its own"),
+    (
+        TWO.replace("number = 2", "number = 1"),
+        "node 2: 'b', number 1, has the name or number of 'a', number 1; give it its own",
+    ),
     (TWO.replace('name = "b"', 'name = "../b"'), "node 2: name is '../b'; it must be 1 to 64 letters, digits, - and _"),
     (TWO.replace('"first"', '"once"'), "node 1: start is 'once'; it must be \"first\" or \"again\""),
     (TWO.replace('["b", "a"]', '["b", "c"]'), "link 1: unknown node: 'c'; the nodes are a, b"),
-    (TWO.replace('["b", "a"]', '["b", "b"]'), "link 1: ends is ['b', 'b']; it must be a list of the names of two nodes"),
-    (TWO.replace("localhost:4002", "127.0.0.1:4001"), "node 'b': 127.0.0.1:4001 is the address of node 'a' too; give each node its own"),
+    (
+        TWO.replace('["b", "a"]', '["b", "b"]'),
+        "link 1: ends is ['b', 'b']; it must be a list of the names of two nodes",
+    ),
+    (
+        TWO.replace("localhost:4002", "127.0.0.1:4001"),
+        "node 'b': 127.0.0.1:4001 is the address of node 'a' too; give each node its own",
+    ),
     (TWO.replace("localhost:4002", "localhost"), "node 'b': address is 'localhost'; it must be HOST:PORT"),
-    (TWO.replace("2:20 be 68", "2:20 be 6"), "node 'a': the line `at 10 send 1:10>2:20 be 6` is refused: hex; docs/formats.md explains the fault"),
-    (TWO.replace("1:10>2:20 be", "2:10>1:20 be"), "node 'a': the line `at 10 send 2:10>1:20 be 68` is refused: bad flow; docs/formats.md explains the fault"),
-    (TWO + '\n[[link]]\nends = ["a", "b"]\ndelay = 1\n', "node 'a' has two links to one node; packets would count as those of the first, so leave one out"),
-    (TWO + '\n[[node]]\nname = "c"\nnumber = 3\naddress = "127.0.0.1:4003"\n', "no links lead from node 'a' to node 'c'; add a link"),
+    (
+        TWO.replace("2:20 be 68", "2:20 be 6"),
+        "node 'a': the line `at 10 send 1:10>2:20 be 6` is refused: hex; docs/formats.md explains the fault",
+    ),
+    (
+        TWO.replace("1:10>2:20 be", "2:10>1:20 be"),
+        "node 'a': the line `at 10 send 2:10>1:20 be 68` is refused: bad flow; docs/formats.md explains the fault",
+    ),
+    (
+        TWO + '\n[[link]]\nends = ["a", "b"]\ndelay = 1\n',
+        "node 'a' has two links to one node; packets would count as those of the first, so leave one out",
+    ),
+    (
+        TWO + '\n[[node]]\nname = "c"\nnumber = 3\naddress = "127.0.0.1:4003"\n',
+        "no links lead from node 'a' to node 'c'; add a link",
+    ),
     (TWO + "mtu = 58\n", "the MTU is 58 octets; it must be more than 58, which headers take"),
-    (TWO.replace("delay = 250", "delay = 86400000"), "a packet would live for more than a day; delays must be shorter, or hops fewer"),
+    (
+        TWO.replace("delay = 250", "delay = 86400000"),
+        "a packet would live for more than a day; delays must be shorter, or hops fewer",
+    ),
 ]
 
 
@@ -125,7 +152,9 @@ def is_good(deltat: str, text: str) -> tuple[bool, str]:
             return False, said
         scripts = sorted(map(str, (folder / "out").glob("*.script")))
         options = said.splitlines()[-1].split(" ")[3:-1]
-        found = subprocess.run([sys.executable, DOCTOR, *scripts, *options], capture_output=True, text=True, check=False)
+        found = subprocess.run(
+            [sys.executable, DOCTOR, *scripts, *options], capture_output=True, text=True, check=False
+        )
         bad = [it for it in found.stdout.splitlines() if ": note: " not in it]
         schedule = (folder / "out" / "network.schedule").read_text()
         ran = subprocess.run([deltat, "replay"], input=schedule, capture_output=True, text=True, check=False)
@@ -137,12 +166,23 @@ def is_good(deltat: str, text: str) -> tuple[bool, str]:
 def drawn(chance: random.Random) -> str:
     """A random network: a tree of some nodes, and some links more."""
     count = chance.randrange(2, 9)
-    parts = [f"[network]\ndrift = {chance.choice([0, 20, 100, 500])}\ntries = {chance.randrange(1, 9)}\nroom = {chance.choice([512, 4096, 65536])}\n"]
-    pairs = {(chance.randrange(n), n) for n in range(1, count)} | {tuple(sorted(chance.sample(range(count), 2))) for _ in range(count // 2)}
+    parts = [
+        f"[network]\ndrift = {chance.choice([0, 20, 100, 500])}\ntries = {chance.randrange(1, 9)}\nroom ="
+        f" {chance.choice([512, 4096, 65536])}\n"
+    ]
+    pairs = {(chance.randrange(n), n) for n in range(1, count)} | {
+        tuple(sorted(chance.sample(range(count), 2))) for _ in range(count // 2)
+    }
     for n in range(count):
-        parts.append(f'[[node]]\nname = "n{n}"\nnumber = {100 + n}\naddress = "127.0.0.1:{5000 + n}"\nstart = "{chance.choice(["first", "again"])}"\n')
+        parts.append(
+            f'[[node]]\nname = "n{n}"\nnumber = {100 + n}\naddress = "127.0.0.1:{5000 + n}"\nstart ='
+            f' "{chance.choice(["first", "again"])}"\n'
+        )
     for one, other in sorted(pairs):
-        parts.append(f'[[link]]\nends = ["n{one}", "n{other}"]\ndelay = {chance.choice([0, 0.3, 5, 40, 700])}\nmtu = {chance.choice([250, 1280, 1500, 9000])}\npace = {chance.choice([0, 0, 5])}\n')
+        parts.append(
+            f'[[link]]\nends = ["n{one}", "n{other}"]\ndelay = {chance.choice([0, 0.3, 5, 40, 700])}\nmtu ='
+            f' {chance.choice([250, 1280, 1500, 9000])}\npace = {chance.choice([0, 0, 5])}\n'
+        )
     return "\n".join(parts)
 
 
@@ -164,7 +204,12 @@ def live(deltat: str) -> tuple[bool, str]:
     text = (TOP / "examples" / "network.toml").read_text()
     for port in ("4001", "4002", "4003"):
         text = text.replace(f"localhost:{port}", f"{HOST}:{own_port()}")
-    for old, new in (("stop = 20000", "stop = 4000"), ("at 10000", "at 1500"), ("at 15000", "at 3500"), ("at 1000 ", "at 800 ")):
+    for old, new in (
+        ("stop = 20000", "stop = 4000"),
+        ("at 10000", "at 1500"),
+        ("at 15000", "at 3500"),
+        ("at 1000 ", "at 800 "),
+    ):
         text = text.replace(old, new)
     with tempfile.TemporaryDirectory() as name:
         status, said = fleet(text, Path(name))
@@ -189,16 +234,41 @@ def bad() -> list[tuple[str, bool, str]]:
             found.append((f"bad: {right}", holds, "" if holds else said))
         words = [sys.executable, TOOL, "none.toml", "--out", "out"]
         ran = subprocess.run(words, cwd=name, capture_output=True, text=True, check=False)
-        found.append(("no file", (ran.returncode, ran.stderr) == (2, "fleet.py: none.toml: No such file or directory; give a description, and a folder that can be written\n"), ran.stderr.strip()))
+        found.append(
+            (
+                "no file",
+                (ran.returncode, ran.stderr)
+                == (
+                    2,
+                    (
+                        "fleet.py: none.toml: No such file or directory; give a description, and a folder that can be"
+                        " written\n"
+                    ),
+                ),
+                ran.stderr.strip(),
+            )
+        )
         status, said = fleet(TWO.replace("localhost:4002", "no.such.host.invalid:4002"), Path(name))
-        found.append(("a host that isn't found", status == 2 and said.startswith("network.toml: node 'b': host 'no.such.host.invalid' isn't found: "), said.strip()))
+        found.append(
+            (
+                "a host that isn't found",
+                status == 2 and said.startswith("network.toml: node 'b': host 'no.such.host.invalid' isn't found: "),
+                said.strip(),
+            )
+        )
     return found
 
 
 def main() -> int:
     deltat = program()
     example = (TOP / "examples" / "network.toml").read_text()
-    cases = [("example", *is_good(deltat, example)), ("files", *files()), ("random", *drawn_networks(deltat)), ("live", *live(deltat)), *bad()]
+    cases = [
+        ("example", *is_good(deltat, example)),
+        ("files", *files()),
+        ("random", *drawn_networks(deltat)),
+        ("live", *live(deltat)),
+        *bad(),
+    ]
     return tell(cases)
 
 

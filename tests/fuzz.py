@@ -1,6 +1,7 @@
 #!/usr/bin/env python3
 """Inputs that are changed by chance, for a number of seconds, outside the gate: schedules, scripts, traces, calls,
-logs, frames, and datagrams that a real node hears, each drawn from those of conformance/ and examples/, and those that were accepted on the way.
+logs, frames, and datagrams that a real node hears, each drawn from those of conformance/ and examples/, and those that
+were accepted on the way.
 
 `tests/fuzz.py [PROGRAM] [--seconds S] [--seed N] [--kind KIND]..` tries all kinds in turn, for S seconds in all;
 `--minutes M` tries one kind after another, each for M minutes, and tells of each how much it tried, with the seed. An
@@ -62,7 +63,30 @@ MOST_TAKEN = 5_000
 MOST_MENDED = 6
 # the trace that a script is run by: all its commands are done at the second reading
 READINGS = b"trace\n@ 0\n@ 4294967296\n"
-NUMBERS = [0, 1, 2, 3, 9, 64, 65, 99, 255, 256, 1000, 6200, 65_535, 65_536, 65_537, 86_400_000, 2**31, 2**32 - 1, 2**32, 2**62, 2**64 - 1, 2**64]
+NUMBERS = [
+    0,
+    1,
+    2,
+    3,
+    9,
+    64,
+    65,
+    99,
+    255,
+    256,
+    1000,
+    6200,
+    65_535,
+    65_536,
+    65_537,
+    86_400_000,
+    2**31,
+    2**32 - 1,
+    2**32,
+    2**62,
+    2**64 - 1,
+    2**64,
+]
 
 
 class Ran(NamedTuple):
@@ -115,7 +139,9 @@ def in_time(child: "subprocess.Popen[bytes]", word: str) -> int:
                 continue
         child.kill()
         child.wait()
-        raise Wrong(f"{word}: stopped after {seconds:.1f} s of a processor, and {time.monotonic() - begun:.0f} s of the clock")
+        raise Wrong(
+            f"{word}: stopped after {seconds:.1f} s of a processor, and {time.monotonic() - begun:.0f} s of the clock"
+        )
 
 
 def processor_of(pid: int) -> float:
@@ -173,7 +199,9 @@ def try_script(program: Program, text: bytes) -> bool:
     for word in ("node", "trace"):
         other = program.run(word, script)
         if other != ran:
-            raise Wrong(f"{word} ends with {other.status} and {other.out[:100]!r} where retrace wrote {ran.out[:100]!r}")
+            raise Wrong(
+                f"{word} ends with {other.status} and {other.out[:100]!r} where retrace wrote {ran.out[:100]!r}"
+            )
     return False
 
 
@@ -199,7 +227,12 @@ def try_calls(program: Program, text: bytes) -> bool:
             if name == "answered" and (number not in served or bytes.fromhex(it[3]) != payloads[number][::-1]):
                 raise Wrong(f"call {number} is answered, and wasn't served so")
     names = list(states.values())
-    mine = [len(payloads), len(served), *(names.count(it) for it in ("answered", "unsure", "declined")), len(payloads) - len(names)]
+    mine = [
+        len(payloads),
+        len(served),
+        *(names.count(it) for it in ("answered", "unsure", "declined")),
+        len(payloads) - len(names),
+    ]
     if counts and counts != mine:
         raise Wrong(f"counts {counts} where the lines have {mine}")
     return ran.status == 0
@@ -294,7 +327,10 @@ def kinds() -> dict[str, Kind]:
         # a node that runs for a second
         "datagrams": Kind("retrace", try_datagrams, octets, every=25),
     }
-    return {name: it._replace(seeds=sorted({seed for seed in it.seeds if len(seed) <= MOST_SEED})) for name, it in found.items()}
+    return {
+        name: it._replace(seeds=sorted({seed for seed in it.seeds if len(seed) <= MOST_SEED}))
+        for name, it in found.items()
+    }
 
 
 def examples(pattern: str) -> list[bytes]:
@@ -303,7 +339,11 @@ def examples(pattern: str) -> list[bytes]:
 
 def changed_octet(chance: random.Random, text: bytes) -> bytes:
     at = chance.randrange(len(text) + 1)
-    return text[:at] + bytes([chance.choice([chance.randrange(256), 0, 10, 32, 48, 255])]) + text[at + chance.randrange(2):]
+    return (
+        text[:at]
+        + bytes([chance.choice([chance.randrange(256), 0, 10, 32, 48, 255])])
+        + text[at + chance.randrange(2) :]
+    )
 
 
 def cut(chance: random.Random, text: bytes) -> bytes:
@@ -455,7 +495,12 @@ def blind(path: str, all_kinds: dict[str, Kind]) -> list[str]:
         ("schedule", "replay", texts["schedule"], lambda it: it._replace(out=it.out.replace(b"\n70 1", b"\n7 1"))),
         ("schedule", "audit", texts["schedule"], lambda it: it._replace(out=b"line 1: stray\n")),
         ("calls", "calls", texts["calls"], lambda it: it._replace(out=it.out.replace(b"030201", b"010203"))),
-        ("calls", "calls", texts["calls"], lambda it: it._replace(out=it.out.replace(b"0 served 0\n", b"0 served 0\n0 served 0\n"))),
+        (
+            "calls",
+            "calls",
+            texts["calls"],
+            lambda it: it._replace(out=it.out.replace(b"0 served 0\n", b"0 served 0\n0 served 0\n")),
+        ),
         ("calls", "calls", texts["calls"], lambda it: it._replace(out=it.out.replace(b"waiting 0", b"waiting 1"))),
         ("log", "audit", texts["log"], lambda it: it._replace(out=it.out.replace(b"S3", b"S1"))),
         ("script", "node", b"hop\n", lambda it: it._replace(out=b"line 2: word\n")),
@@ -467,7 +512,11 @@ def blind(path: str, all_kinds: dict[str, Kind]) -> list[str]:
         slow = pathlib.Path(folder) / "slow"
         slow.write_text(f'#!/bin/sh\nsleep {1.5 * LOOK}\nexec "{path}" "$@"\n')
         slow.chmod(0o755)
-        found += ["schedule: what waits for the clock alone is blamed"] if finds(Program(str(slow)), all_kinds["schedule"], texts["schedule"]) else []
+        found += (
+            ["schedule: what waits for the clock alone is blamed"]
+            if finds(Program(str(slow)), all_kinds["schedule"], texts["schedule"])
+            else []
+        )
     read = frames.read
     frames.read = lambda frame: read(frame).replace("dbe", "db")
     found += [] if finds(Program(path), all_kinds["frames"], hello) else ["frames: a reader that is spoilt"]
@@ -490,7 +539,9 @@ class Kept:
         self.count += 1
         file = self.folder / f"{self.count:03}-{name}"
         file.with_suffix(".in").write_bytes(text)
-        file.with_suffix(".why").write_text(f"{why}\n\ntests/fuzz.py {path} --kind {name} --input {file.with_suffix('.in')}\n")
+        file.with_suffix(".why").write_text(
+            f"{why}\n\ntests/fuzz.py {path} --kind {name} --input {file.with_suffix('.in')}\n"
+        )
         print(f"{name}: {why[:300]}", flush=True)
 
 
@@ -534,7 +585,8 @@ def fuzz(path: str, chosen: dict[str, Kind], seconds: float, seed: int, kept: Ke
 
 
 def grow(pool: list[bytes], text: bytes, chance: random.Random) -> None:
-    """An input more to draw from; in place of another one where there are many, so that hours don't take more memory."""
+    """An input more to draw from; in place of another one where there are many, so that hours don't take more
+    memory."""
     if len(pool) < MOST_POOL:
         pool.append(text)
     else:
@@ -542,7 +594,9 @@ def grow(pool: list[bytes], text: bytes, chance: random.Random) -> None:
 
 
 def told_of(names: Sequence[str], counts: collections.Counter[str], seed: int) -> str:
-    return ", ".join(f"{counts[name]} {name} ({counts[f'{name} accepted']} accepted)" for name in names) + f"; seed {seed}"
+    return (
+        ", ".join(f"{counts[name]} {name} ({counts[f'{name} accepted']} accepted)" for name in names) + f"; seed {seed}"
+    )
 
 
 def fuzz_each(path: str, chosen: dict[str, Kind], seconds: float, seed: int, kept: Kept) -> collections.Counter[str]:
@@ -576,8 +630,12 @@ def main() -> int:
     reads.add_argument("--minutes", type=positive, metavar="M", help="one kind after another, each for so long")
     reads.add_argument("--seed", type=int, default=1, help="what the changes are drawn from (%(default)s)")
     all_kinds = kinds()
-    reads.add_argument("--kind", action="append", choices=list(all_kinds), help="inputs of this kind alone; may be given again")
-    reads.add_argument("--keep", type=pathlib.Path, metavar="FOLDER", help="keep those that fail there (a new folder below /tmp)")
+    reads.add_argument(
+        "--kind", action="append", choices=list(all_kinds), help="inputs of this kind alone; may be given again"
+    )
+    reads.add_argument(
+        "--keep", type=pathlib.Path, metavar="FOLDER", help="keep those that fail there (a new folder below /tmp)"
+    )
     reads.add_argument("--input", type=pathlib.Path, metavar="FILE", help="try this input alone, of the one --kind")
     given = reads.parse_args()
     path = str(pathlib.Path(given.program).resolve())

@@ -191,7 +191,9 @@ def settings() -> None:
         fields = {"node": "1", "state": '"s"', "bind": bind, "listen": listen}
         if "=" in first:
             fields[first.split(" ")[0]] = first.split("= ")[1].strip()
-        lines = "".join(f"{name} = {value}\n" for name, value in fields.items()) + ("" if "=" in first else first + "\n")
+        lines = "".join(f"{name} = {value}\n" for name, value in fields.items()) + (
+            "" if "=" in first else first + "\n"
+        )
         tables = tables or "[call.orders]\nnode = 2\nport = 20\n"
         body = lines + f'peers.2 = "{HOST}:{FAR}"\n{NETWORK}' + tables
         pathlib.Path("wrong.toml").write_text(body)

@@ -70,7 +70,9 @@ class Wrong(Exception):
 
 def one_of(texts: str) -> str:
     """The pattern of the lines that stand here."""
-    return "|".join(re.sub(r"\b(FLOW|SENT|READ|HEX|BAD|N)\b", lambda it: NAMES[it[0]], line) for line in texts.split("\n") if line)
+    return "|".join(
+        re.sub(r"\b(FLOW|SENT|READ|HEX|BAD|N)\b", lambda it: NAMES[it[0]], line) for line in texts.split("\n") if line
+    )
 
 
 FAULT = re.compile(f"line {NUMBER}: (?:{one_of(FAULTS)})")
@@ -78,8 +80,12 @@ FLAW = re.compile(f"line {NUMBER}: (?:{FLAWS})")
 WORLD = re.compile(f"{NUMBER} (?:{NUMBER} (?:{one_of(REPORTS)}|{one_of(OF_A_WORLD)})|lost {NUMBER})")
 NODE = re.compile(f"{NUMBER} {NUMBER} (?:{one_of(REPORTS)}|{one_of(OF_A_NODE)})")
 CALL = re.compile(one_of(OF_CALLS))
-TOTALS = re.compile(f"flow {FLOW} taken {NUMBER} acked {NUMBER} uncertain {NUMBER} open {NUMBER} given {NUMBER} read {NUMBER}")
-COUNTS = re.compile(f"calls {NUMBER} served {NUMBER} answered {NUMBER} unsure {NUMBER} declined {NUMBER} waiting {NUMBER}")
+TOTALS = re.compile(
+    f"flow {FLOW} taken {NUMBER} acked {NUMBER} uncertain {NUMBER} open {NUMBER} given {NUMBER} read {NUMBER}"
+)
+COUNTS = re.compile(
+    f"calls {NUMBER} served {NUMBER} answered {NUMBER} unsure {NUMBER} declined {NUMBER} waiting {NUMBER}"
+)
 END = re.compile(f"end {NUMBER}")
 
 
@@ -120,7 +126,9 @@ def log_of_world(out: bytes, accepted: bool) -> tuple[list[list[str]], dict[str,
     lines = lines_of(out)
     count = sum(line.startswith("flow ") for line in lines)
     told = body(out, WORLD, [*[TOTALS] * count, END])
-    return told, {it[1]: [int(value) for value in it[3::2]] for it in (line.split(" ") for line in lines[-1 - count:-1])}
+    return told, {
+        it[1]: [int(value) for value in it[3::2]] for it in (line.split(" ") for line in lines[-1 - count : -1])
+    }
 
 
 def log_of_node(out: bytes, status: int) -> list[list[str]]:

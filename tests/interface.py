@@ -96,7 +96,12 @@ def copies() -> Iterator[Case]:
     for what, old, new, stale in (
         ("a field that was moved", "uint32_t source, target;", "uint32_t target, source;", "sys.rs"),
         ("another number of a status", "DT_GONE = 18 ", "DT_GONE = 19 ", "_c.py"),
-        ("another type of a parameter", "_tick(dt_node *node, uint64_t now)", "_tick(dt_node *node, uint32_t now)", "dt_node_tick has"),
+        (
+            "another type of a parameter",
+            "_tick(dt_node *node, uint64_t now)",
+            "_tick(dt_node *node, uint32_t now)",
+            "dt_node_tick has",
+        ),
         ("another type of a field", "    uint32_t mpl; ", "    uint64_t mpl; ", "struct dt_params and"),
         ("another name of a status", "DT_FULL = 7", "DT_ROOM = 7", "names.c"),
     ):
@@ -170,7 +175,12 @@ def installed(folder: pathlib.Path, libraries: pathlib.Path) -> Iterator[Case]:
     for it in ("libdeltat.a", SONAME):
         shutil.copy(libraries / it, clone / "lib")
     # what is linked already is newer than what it is made of
-    words = [f"PREFIX={prefix}", f"ARCHIVE={libraries / 'libdeltat.a'}", "--old-file=libdeltat.a", f"--old-file={SONAME}"]
+    words = [
+        f"PREFIX={prefix}",
+        f"ARCHIVE={libraries / 'libdeltat.a'}",
+        "--old-file=libdeltat.a",
+        f"--old-file={SONAME}",
+    ]
     ran = run("make", "-C", clone / "lib", "install", *words)
     yield "make install", ran.returncode == 0, ran.stderr[-500:]
     finds = {"PKG_CONFIG_PATH": str(prefix / "lib" / "pkgconfig"), "LD_LIBRARY_PATH": str(prefix / "lib")}

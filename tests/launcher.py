@@ -1,11 +1,11 @@
 #!/usr/bin/env python3
 """The launcher `./deltat` and `./build` in a small repository of their own, with a toolchain that only pretends,
-so all of this takes seconds. `tests/launcher.py [TEST ..]`. Ends with 1 where a test fails. What `./build` does is tried
-as it proves from nothing, by the pretended `rattle`, and as `--kept` keeps proofs, by the pretended `rt`.
+so all of this takes seconds. `tests/launcher.py [TEST ..]`. Ends with 1 where a test fails. What `./build` does is
+tried as it proves from nothing, by the pretended `rattle`, and as `--kept` keeps proofs, by the pretended `rt`.
 
-Both note when they begin and end with which crate, make a library of the sources' sum, and link a program that prints its
-words. `rt` refuses a crate over libraries that aren't those of the sources below; what `rattle` was given stands in what
-it makes.
+Both note when they begin and end with which crate, make a library of the sources' sum, and link a program that prints
+its words. `rt` refuses a crate over libraries that aren't those of the sources below; what `rattle` was given stands in
+what it makes.
 
 In tests/all: no words, 240 s."""
 import json
@@ -153,7 +153,16 @@ class Place:
 
     def run(self, *words: str, given: str = "", **env: str) -> "subprocess.CompletedProcess[str]":
         words = (*self.build, *words[1:]) if words[0] == "./build" else words
-        return subprocess.run(words, cwd=self.top, input=given, capture_output=True, text=True, env={**self.env, **env}, check=False, timeout=60)
+        return subprocess.run(
+            words,
+            cwd=self.top,
+            input=given,
+            capture_output=True,
+            text=True,
+            env={**self.env, **env},
+            check=False,
+            timeout=60,
+        )
 
     def noted(self) -> list[list]:
         """What rt noted since this was last asked."""
@@ -170,20 +179,38 @@ class Place:
 
     def library(self, name: str) -> pathlib.Path:
         """What is made of a library for those above it."""
-        return self.top / "crates" / name / "out" / "rlib" if self.is_kept else self.top / "out" / ".libraries" / f"{name}.rlib"
+        return (
+            self.top / "crates" / name / "out" / "rlib"
+            if self.is_kept
+            else self.top / "out" / ".libraries" / f"{name}.rlib"
+        )
 
     def rooms(self) -> list[pathlib.Path]:
         """What is left of rooms and of the launcher's temporary folders."""
         return [it for it in self.top.parent.iterdir() if it.name not in ("repository", "log", "bin")]
 
 
-USAGE = next(re.finditer(r'b"(usage: [^"]*)\\n"', (TOP / "crates" / "dt_top" / "src" / "ending.rt").read_text()))[1] + "\n"
+USAGE = (
+    next(re.finditer(r'b"(usage: [^"]*)\\n"', (TOP / "crates" / "dt_top" / "src" / "ending.rt").read_text()))[1] + "\n"
+)
 
 
 def faulty_words(place: Place) -> bool:
     """They are answered as by the program, and nothing is run."""
-    faulty = [[], ["hop"], ["--help"], ["make"], ["make", "0"], ["make", "01"], ["make", "50001"], ["make", "1", "1"], ["make 1"],
-              ["replay", "5"], ["replay", ""], ["--", "--", "replay"]]
+    faulty = [
+        [],
+        ["hop"],
+        ["--help"],
+        ["make"],
+        ["make", "0"],
+        ["make", "01"],
+        ["make", "50001"],
+        ["make", "1", "1"],
+        ["make 1"],
+        ["replay", "5"],
+        ["replay", ""],
+        ["--", "--", "replay"],
+    ]
     answers = [place.run("./deltat", *it) for it in faulty]
     return all((it.returncode, it.stdout, it.stderr) == (2, "", USAGE) for it in answers) and not place.noted()
 
@@ -196,8 +223,14 @@ def unproved_run(place: Place) -> bool:
     says = first.startswith("deltat: ") and "unproved" in first and "./build" in first
     right = notes == [["begins", "try", "deltat", "--seconds", "600", "--", "replay"], ["given", "a schedule\n", True]]
     made = place.run("./deltat", "make", "50000", given="this isn't read")
-    return says and right and (ran.returncode, ran.stdout, rest) == (3, "log of replay\n", "input refused\n") and made.stdout == "log of make 50000\n" \
-        and place.noted()[1] == ["given", "", True] and not place.rooms()
+    return (
+        says
+        and right
+        and (ran.returncode, ran.stdout, rest) == (3, "log of replay\n", "input refused\n")
+        and made.stdout == "log of make 50000\n"
+        and place.noted()[1] == ["given", "", True]
+        and not place.rooms()
+    )
 
 
 def no_answer(place: Place) -> bool:
@@ -210,7 +243,9 @@ def no_answer(place: Place) -> bool:
         (tools / name).symlink_to(shutil.which(name))
     answers.append((place.run("./deltat", "replay", PATH=str(tools)), "no rt on PATH"))
     shutil.rmtree(tools)
-    return all(it.returncode == 70 and it.stdout == "" and word in it.stderr for it, word in answers) and not place.rooms()
+    return (
+        all(it.returncode == 70 and it.stdout == "" and word in it.stderr for it, word in answers) and not place.rooms()
+    )
 
 
 def installed(place: Place) -> bool:
@@ -220,7 +255,10 @@ def installed(place: Place) -> bool:
     for name in ("bash", "dirname", "env", "find"):
         (tools / name).symlink_to(shutil.which(name))
     other, answers = tools / "deltat", []
-    for text in ('#!/usr/bin/env bash\necho "installed $*"\nexit 5\n', f'#!/usr/bin/env bash\nexec {place.top}/deltat "$@"\n'):
+    for text in (
+        '#!/usr/bin/env bash\necho "installed $*"\nexit 5\n',
+        f'#!/usr/bin/env bash\nexec {place.top}/deltat "$@"\n',
+    ):
         other.write_text(text)
         other.chmod(0o755)
         answers.append(place.run("./deltat", "--", "replay", PATH=str(tools)))
@@ -230,13 +268,22 @@ def installed(place: Place) -> bool:
     shutil.rmtree(tools)
     first, *others = answers
     says = first.stderr.startswith("deltat: ") and str(other) in first.stderr and "installed" in first.stderr
-    return says and (first.returncode, first.stdout) == (5, "installed -- replay\n") and all((it.returncode, it.stdout) == (70, "") for it in others) \
-        and not place.noted() and not place.rooms()
+    return (
+        says
+        and (first.returncode, first.stdout) == (5, "installed -- replay\n")
+        and all((it.returncode, it.stdout) == (70, "") for it in others)
+        and not place.noted()
+        and not place.rooms()
+    )
 
 
 def failing_streams(place: Place) -> bool:
     """No input is 7, and no room for the output 8, as of the program."""
-    lines = [("replay < /", 7, "read failed\n"), ("replay <&-", 7, "read failed\n"), ("replay < crates.txt > /dev/full", 8, "write failed\n")]
+    lines = [
+        ("replay < /", 7, "read failed\n"),
+        ("replay <&-", 7, "read failed\n"),
+        ("replay < crates.txt > /dev/full", 8, "write failed\n"),
+    ]
     for line, status, text in lines:
         ran = place.run("bash", "-c", f"exec ./deltat {line}")
         if ran.returncode != status or not ran.stderr.endswith(text):
@@ -261,16 +308,26 @@ def side_by_side(place: Place) -> bool:
     notes = place.noted()
     at = {(it[0], it[2]): number for number, it in enumerate(notes)}
     beside = at["begins", "short"] < at["ends", "long_one"] and at["begins", "long_one"] < at["ends", "short"]
-    below_first = all(at["ends", below] < at["begins", name] for name, below in (("short", "low"), ("long_two", "long_one"), ("apex", "short"), ("deltat", "apex")))
+    below_first = all(
+        at["ends", below] < at["begins", name]
+        for name, below in (("short", "low"), ("long_two", "long_one"), ("apex", "short"), ("deltat", "apex"))
+    )
     used = place.run("./deltat", "replay", "--", "x")
     again = place.run("./build")
-    return ran.returncode == 0 and beside and below_first and (used.returncode, used.stdout, used.stderr) == (4, "program replay -- x\n", "") \
-        and again.returncode == 0 and not place.built() and not place.rooms()
+    return (
+        ran.returncode == 0
+        and beside
+        and below_first
+        and (used.returncode, used.stdout, used.stderr) == (4, "program replay -- x\n", "")
+        and again.returncode == 0
+        and not place.built()
+        and not place.rooms()
+    )
 
 
 def changed(place: Place) -> bool:
-    """Only what a change reaches is built again, and a library that somebody made anew since, where something is to be built
-    over it or proofs are kept; what is touched alone isn't, and neither is what nothing needs."""
+    """Only what a change reaches is built again, and a library that somebody made anew since, where something is to be
+    built over it or proofs are kept; what is touched alone isn't, and neither is what nothing needs."""
     place.run("./build")
     place.noted()
     place.change("short", "// short, changed\n")
@@ -281,12 +338,20 @@ def changed(place: Place) -> bool:
     os.utime(place.top / "crates" / "long_one" / "src" / "lib.rt")
     touched = place.run("./deltat", "replay")
     place.noted()
-    second = place.run("./build").returncode == 0 and not place.built() and place.run("./deltat", "replay").stdout == "program replay\n"
+    second = (
+        place.run("./build").returncode == 0
+        and not place.built()
+        and place.run("./deltat", "replay").stdout == "program replay\n"
+    )
     (place.library("low") / "made").write_text("of other sources")
     (place.library("low") / "more").touch()
     remade = place.run("./build").returncode == 0 and place.built() == (["low"] if place.is_kept else [])
     place.change("side", "// side, changed\n")
-    remade = remade and place.run("./build", "--only", "side").returncode == 0 and place.built() == (["side"] if place.is_kept else ["low", "side"])
+    remade = (
+        remade
+        and place.run("./build", "--only", "side").returncode == 0
+        and place.built() == (["side"] if place.is_kept else ["low", "side"])
+    )
     other_kit = place.run("./build", PRETENDED_VERSION="another kit").returncode == 0 and len(place.built()) == 6
     return first and second and remade and other_kit and "unproved" in tried.stderr and "unproved" in touched.stderr
 
@@ -296,11 +361,21 @@ def failure(place: Place) -> bool:
     place.change("long_two", "// broken\n")
     ran = place.run("./build", "--jobs", "1")
     lines = "".join(f"line {i}\n" for i in range(11, 30)) + "not proved\n"
-    failed = ran.returncode == 70 and ran.stderr.endswith(f"long_two failed; the end of what it said:\n{lines}") and not place.program.exists()
+    failed = (
+        ran.returncode == 70
+        and ran.stderr.endswith(f"long_two failed; the end of what it said:\n{lines}")
+        and not place.program.exists()
+    )
     place.noted()
     place.change("long_two", "// mended\n")
     mended = place.run("./build", "--jobs", "1")
-    return failed and mended.returncode == 0 and place.built()[0] == "long_two" and "low" not in place.built() and not place.rooms()
+    return (
+        failed
+        and mended.returncode == 0
+        and place.built()[0] == "long_two"
+        and "low" not in place.built()
+        and not place.rooms()
+    )
 
 
 def wait_for(holds) -> None:
@@ -316,18 +391,32 @@ def seconds(place: Place) -> bool:
     ran = place.run("./build", "--seconds")
     head, *lines = (place.top / "crates" / "seconds.txt").read_text().splitlines()
     told = {name: int(number) for name, number in map(str.split, lines)}
-    return ran.returncode == 0 and not place.noted() and head == "# seconds" and list(told) == ["low", "short", "long_one", "long_two", "apex", "deltat"] \
-        and told["long_one"] < 5 and told["long_two"] == 5
+    return (
+        ran.returncode == 0
+        and not place.noted()
+        and head == "# seconds"
+        and list(told) == ["low", "short", "long_one", "long_two", "apex", "deltat"]
+        and told["long_one"] < 5
+        and told["long_two"] == 5
+    )
 
 
 def killed(place: Place) -> bool:
     """After a build that was killed the next one proves what is missing, and removes its rooms."""
-    build = subprocess.Popen(place.build, cwd=place.top, env={**place.env, "PRETENDED_SECONDS": "1"}, stdout=subprocess.DEVNULL, stderr=subprocess.DEVNULL)
+    build = subprocess.Popen(
+        place.build,
+        cwd=place.top,
+        env={**place.env, "PRETENDED_SECONDS": "1"},
+        stdout=subprocess.DEVNULL,
+        stderr=subprocess.DEVNULL,
+    )
     wait_for(place.log.exists)
     build.kill()
     build.wait()
     left = len(place.rooms())
-    wait_for(lambda: not subprocess.run(["pgrep", "-f", str(place.top.parent)], capture_output=True, check=False).stdout)
+    wait_for(
+        lambda: not subprocess.run(["pgrep", "-f", str(place.top.parent)], capture_output=True, check=False).stdout
+    )
     place.noted()
     return left == 1 and place.run("./build").returncode == 0 and len(place.built()) == 6 and not place.rooms()
 
@@ -336,7 +425,13 @@ def interrupt(place: Place) -> bool:
     """An interrupted build ends at once and leaves no process; the next one goes on."""
     place.run("./build", "--only", "long_one")
     for number in (signal.SIGINT, signal.SIGTERM):
-        build = subprocess.Popen(place.build, cwd=place.top, env={**place.env, "PRETENDED_SECONDS": "60"}, stdout=subprocess.DEVNULL, stderr=subprocess.DEVNULL)
+        build = subprocess.Popen(
+            place.build,
+            cwd=place.top,
+            env={**place.env, "PRETENDED_SECONDS": "60"},
+            stdout=subprocess.DEVNULL,
+            stderr=subprocess.DEVNULL,
+        )
         place.noted()
         wait_for(place.log.exists)
         build.send_signal(number)
@@ -357,23 +452,39 @@ def live_output(place: Place) -> bool:
     failed = place.run("./deltat", "hop").returncode
     place.change("apex", "// broken\n")
     broken = place.run("./deltat", "trace")
-    return (ran.returncode, ran.stdout) == (4, "program node\n") and "6 of 6" in ran.stderr and failed == 4 and (broken.returncode, broken.stdout) == (70, "") \
+    return (
+        (ran.returncode, ran.stdout) == (4, "program node\n")
+        and "6 of 6" in ran.stderr
+        and failed == 4
+        and (broken.returncode, broken.stdout) == (70, "")
         and "not proved" in broken.stderr
+    )
 
 
 def only(place: Place) -> bool:
     """--only builds what is named and what is below; a crate that isn't there is a wrong word."""
     ran = place.run("./build", "--only", "short", "side")
     built = place.built()
-    return ran.returncode == 0 and built[0] == "low" and sorted(built) == ["low", "short", "side"] and not place.program.exists() \
-        and place.run("./build", "--only", "nothing").returncode == 2 and place.run("./build", "--jobs", "0").returncode == 2
+    return (
+        ran.returncode == 0
+        and built[0] == "low"
+        and sorted(built) == ["low", "short", "side"]
+        and not place.program.exists()
+        and place.run("./build", "--only", "nothing").returncode == 2
+        and place.run("./build", "--jobs", "0").returncode == 2
+    )
 
 
 def two_builds(place: Place) -> bool:
     """The second of two builds waits for the first, and finds all done."""
-    builds = [subprocess.Popen(place.build, cwd=place.top, env=place.env, stdout=subprocess.PIPE, stderr=subprocess.PIPE) for _ in range(2)]
+    builds = [
+        subprocess.Popen(place.build, cwd=place.top, env=place.env, stdout=subprocess.PIPE, stderr=subprocess.PIPE)
+        for _ in range(2)
+    ]
     said = [it.communicate(timeout=60)[0] for it in builds]
-    return [it.returncode for it in builds] == [0, 0] and len(place.built()) == 6 and any(b"waiting" in it for it in said)
+    return (
+        [it.returncode for it in builds] == [0, 0] and len(place.built()) == 6 and any(b"waiting" in it for it in said)
+    )
 
 
 def over_other_libraries(place: Place) -> bool:
@@ -385,7 +496,9 @@ def over_other_libraries(place: Place) -> bool:
     shutil.rmtree(place.top / "out")
     for it in place.top.glob("crates/*/out"):
         shutil.rmtree(it)
-    return again == 0 == place.run("./build").returncode and over == {it: (place.library(it) / "made").read_text() for it in over}
+    return again == 0 == place.run("./build").returncode and over == {
+        it: (place.library(it) / "made").read_text() for it in over
+    }
 
 
 def want_of_memory(place: Place) -> bool:
@@ -396,7 +509,12 @@ def want_of_memory(place: Place) -> bool:
 
 LAUNCHER = (faulty_words, unproved_run, no_answer, installed, failing_streams, live_output, want_of_memory)
 BUILD = (order, side_by_side, changed, over_other_libraries, failure, interrupt, killed, seconds, only, two_builds)
-TESTS = [(test.__name__ + "".join(more), test, more) for tests, forms in ((LAUNCHER, [[]]), (BUILD, [[], ["--kept"]])) for test in tests for more in forms]
+TESTS = [
+    (test.__name__ + "".join(more), test, more)
+    for tests, forms in ((LAUNCHER, [[]]), (BUILD, [[], ["--kept"]]))
+    for test in tests
+    for more in forms
+]
 
 
 def holds(test, more: list[str]) -> bool:

@@ -2,13 +2,13 @@
 """Compiles the C programs of tests/library over libdeltat, and runs them.
 
 `tests/library.py [ARCHIVE] [--datagrams N]` takes the archive at that path; with no word it is the one that
-`./build --only dt_c` leaves in crates/dt_c/out, which it builds where there is none. The header is compiled alone too. Compilers are gcc and
-clang, languages C99, C11 and C++17, all with -Wall -Wextra -Werror; each program runs bare, and those of C99 also under
-valgrind and with the address and undefined-behaviour sanitizers, where the machine has them. The C files of lib/
-are compiled by each compiler with these warnings, and linked:
+`./build --only dt_c` leaves in crates/dt_c/out, which it builds where there is none. The header is compiled alone too.
+Compilers are gcc and clang, languages C99, C11 and C++17, all with -Wall -Wextra -Werror; each program runs bare, and
+those of C99 also under valgrind and with the address and undefined-behaviour sanitizers, where the machine has them.
+The C files of lib/ are compiled by each compiler with these warnings, and linked:
 
-- layout.c: sizes and places of fields, by the compiler alone, as release/interface.py has them of the header; crates/dt_c
-  proves the same sizes.
+- layout.c: sizes and places of fields, by the compiler alone, as release/interface.py has them of the header;
+  crates/dt_c proves the same sizes.
 - exchange.c: two nodes, a message that comes whole, each refusal, wrong sizes of structs, and the calls of plain C.
 - messages.c: whole messages: with gaps, in parts, too long, for a buffer that is too small, of many flows.
 - shelf.c: data that came too early: held, handed in once, no longer than they live, within bounds.
@@ -18,10 +18,11 @@ are compiled by each compiler with these warnings, and linked:
   examples/hello.c and hello.cpp, of 25 lines at most.
 - loops.c: the loops of a program, taken from the header's comments, over a wire that loses and with a clock that stops.
 - strangers.c: N random datagrams (1,000,000), after which the node takes as much memory as before, and some thousand
-  flows from one peer; a million flows at a guard that lets a thousand in; and 200,000 that come and go, each with half a
-  message for an inbox. In C99 alone.
+  flows from one peer; a million flows at a guard that lets a thousand in; and 200,000 that come and go, each with half
+  a message for an inbox. In C99 alone.
 
-The last line is `N passed, M failed`; ends with 1 where one failed, and with 77 where there is no compiler or no archive.
+The last line is `N passed, M failed`; ends with 1 where one failed, and with 77 where there is no compiler or no
+archive.
 
 In tests/all: no words, 900 s."""
 import argparse
@@ -69,7 +70,14 @@ class Program(NamedTuple):
     has_heap: bool
 
 
-PROGRAMS = (Program("layout.c", False), Program("exchange.c", False), Program("messages.c", False), Program("shelf.c", False), Program("each_failure.c", True), Program("services.c", True))
+PROGRAMS = (
+    Program("layout.c", False),
+    Program("exchange.c", False),
+    Program("messages.c", False),
+    Program("shelf.c", False),
+    Program("each_failure.c", True),
+    Program("services.c", True),
+)
 # what valgrind and the sanitizers see of the random datagrams, and the flows of one peer that are opened
 FEW_DATAGRAMS, FLOWS = 20_000, 5_000
 
@@ -80,7 +88,9 @@ class Tally:
     def __init__(self) -> None:
         self.passed = self.failed = 0
 
-    def run(self, what: str, command: Sequence[str | pathlib.Path], seconds: int = SECONDS, tells: bool = False) -> bool:
+    def run(
+        self, what: str, command: Sequence[str | pathlib.Path], seconds: int = SECONDS, tells: bool = False
+    ) -> bool:
         """Runs a command, and prints what it said where it tells figures. Whether it ended with 0."""
         try:
             done = subprocess.run([str(word) for word in command], capture_output=True, text=True, timeout=seconds)
@@ -108,10 +118,30 @@ def archive(named: pathlib.Path | None) -> pathlib.Path:
     return ARCHIVE
 
 
-def compiled(driver: str, language: Language, sources: Sequence[pathlib.Path], out: pathlib.Path, more: Sequence[str | pathlib.Path]) -> list[str | pathlib.Path]:
+def compiled(
+    driver: str,
+    language: Language,
+    sources: Sequence[pathlib.Path],
+    out: pathlib.Path,
+    more: Sequence[str | pathlib.Path],
+) -> list[str | pathlib.Path]:
     """The command that compiles these files and links them with what is named."""
     as_what = ("-x", "c++") if language.name.startswith("C++") else ("-x", "c")
-    return [driver, *language.words, *WARNINGS, "-O1", "-gdwarf-4", f"-I{TOP / 'include'}", *as_what, *sources, "-x", "none", *more, "-o", out]
+    return [
+        driver,
+        *language.words,
+        *WARNINGS,
+        "-O1",
+        "-gdwarf-4",
+        f"-I{TOP / 'include'}",
+        *as_what,
+        *sources,
+        "-x",
+        "none",
+        *more,
+        "-o",
+        out,
+    ]
 
 
 def members(driver: str, folder: pathlib.Path, without_heap: bool = False) -> list[pathlib.Path]:
@@ -128,7 +158,9 @@ def ways() -> Iterator[tuple[str, Language]]:
                 yield driver, language
 
 
-def try_program(tally: Tally, program: Program, driver: str, language: Language, library: pathlib.Path, folder: pathlib.Path) -> None:
+def try_program(
+    tally: Tally, program: Program, driver: str, language: Language, library: pathlib.Path, folder: pathlib.Path
+) -> None:
     """Compiles a program in one way, and runs it bare, and in C99 with what looks at its memory."""
     what = f"{program.file}, {driver}, {language.name}"
     name = f"{program.file}-{driver}-{language.name}"
@@ -143,12 +175,18 @@ def try_program(tally: Tally, program: Program, driver: str, language: Language,
         tally.run(f"{what}, valgrind", ["valgrind", "--quiet", "--error-exitcode=9", "--leak-check=full", built])
     sanitized = folder / f"{name}-sanitized"
     flags = ["-fsanitize=address,undefined", "-fno-sanitize-recover=all"]
-    if tally.run(f"{what}, sanitizers", compiled(driver, language, [HERE / program.file], sanitized, [*flags, *linked])):
+    if tally.run(
+        f"{what}, sanitizers", compiled(driver, language, [HERE / program.file], sanitized, [*flags, *linked])
+    ):
         tally.run(f"{what}, sanitizers", [sanitized])
 
 
 # C++ as deltat.hpp is compiled
-DIALECTS = (("-std=c++17", "-fsanitize=address,undefined"), ("-std=c++20",), ("-std=c++17", "-fno-exceptions", "-fno-rtti"))
+DIALECTS = (
+    ("-std=c++17", "-fsanitize=address,undefined"),
+    ("-std=c++20",),
+    ("-std=c++17", "-fno-exceptions", "-fno-rtti"),
+)
 
 
 def try_handles(tally: Tally, driver: str, library: pathlib.Path, folder: pathlib.Path) -> None:
@@ -157,7 +195,18 @@ def try_handles(tally: Tally, driver: str, library: pathlib.Path, folder: pathli
     for words in DIALECTS:
         for source in (HERE / "handles.cpp", TOP / "examples" / "hello.cpp"):
             what, built = f"{source.name}, {driver} {' '.join(words)}", folder / f"{source.stem}-{driver}"
-            command = [driver, *words, *WARNINGS, "-Wconversion", "-O1", f"-I{TOP / 'include'}", source, *linked, "-o", built]
+            command = [
+                driver,
+                *words,
+                *WARNINGS,
+                "-Wconversion",
+                "-O1",
+                f"-I{TOP / 'include'}",
+                source,
+                *linked,
+                "-o",
+                built,
+            ]
             if tally.run(what, command):
                 tally.run(what, [built])
 
@@ -166,7 +215,10 @@ def try_hello(tally: Tally, driver: str, library: pathlib.Path, folder: pathlib.
     """The shortest program in C."""
     built = folder / f"hello-{driver}"
     language = Language("C11", ("-std=c11",), (driver,))
-    if tally.run(f"hello.c, {driver}", compiled(driver, language, [TOP / "examples" / "hello.c"], built, [*members(driver, folder), library])):
+    if tally.run(
+        f"hello.c, {driver}",
+        compiled(driver, language, [TOP / "examples" / "hello.c"], built, [*members(driver, folder), library]),
+    ):
         tally.run(f"hello.c, {driver}", [built])
 
 
@@ -176,14 +228,25 @@ def try_loops(tally: Tally, driver: str, library: pathlib.Path, folder: pathlib.
     (service,) = interface.code("---- 11 SERVICES: REQUEST AND REPLY ----")
     language = Language("C99", ("-std=c99",), (driver,))
     # the second reads the clock after the look that found nothing, and has to fail
-    for way, loop in (("as it is", node), ("spoilt", node.replace("empty_at = looked_at;", "(void)looked_at, empty_at = now();"))):
+    for way, loop in (
+        ("as it is", node),
+        ("spoilt", node.replace("empty_at = looked_at;", "(void)looked_at, empty_at = now();")),
+    ):
         room, built = folder / f"loops-{driver}-{way.split()[0]}", folder / f"loops-{driver}-{way.split()[0]}.out"
         room.mkdir()
         for name, text in (("node_functions", f"static {functions}"), ("node_loop", loop), ("service_loop", service)):
             (room / f"{name}.inc").write_text(text)
-        more = [f"-I{room}", "-fsanitize=address,undefined", "-fno-sanitize-recover=all", *members(driver, folder), library]
+        more = [
+            f"-I{room}",
+            "-fsanitize=address,undefined",
+            "-fno-sanitize-recover=all",
+            *members(driver, folder),
+            library,
+        ]
         if tally.run(f"loops.c {way}, {driver}", compiled(driver, language, [HERE / "loops.c"], built, more)):
-            tally.run(f"loops.c {way}, {driver}", [built] if way == "as it is" else ["sh", "-c", f"! {built} 2>/dev/null"])
+            tally.run(
+                f"loops.c {way}, {driver}", [built] if way == "as it is" else ["sh", "-c", f"! {built} 2>/dev/null"]
+            )
 
 
 def is_short(path: pathlib.Path) -> bool:
@@ -204,16 +267,22 @@ def try_strangers(tally: Tally, driver: str, count: int, library: pathlib.Path, 
     tally.run("a million flows at a guard", [bare, "guard", "1000000", "1000"], tells=True)
     tally.run("messages of flows that come and go", [bare, "messages", "200000"], tells=True)
     if shutil.which("valgrind") is not None:
-        tally.run("random datagrams, valgrind", ["valgrind", "--quiet", "--error-exitcode=9", "--leak-check=full", bare, *few])
+        tally.run(
+            "random datagrams, valgrind", ["valgrind", "--quiet", "--error-exitcode=9", "--leak-check=full", bare, *few]
+        )
     flags = ["-fsanitize=address,undefined", "-fno-sanitize-recover=all"]
-    if tally.run("strangers.c, sanitizers", compiled(driver, language, [HERE / "strangers.c"], sanitized, [*flags, *linked])):
+    if tally.run(
+        "strangers.c, sanitizers", compiled(driver, language, [HERE / "strangers.c"], sanitized, [*flags, *linked])
+    ):
         tally.run("random datagrams, sanitizers", [sanitized, *few])
 
 
 def main() -> int:
     reads = argparse.ArgumentParser(description=__doc__, formatter_class=argparse.RawDescriptionHelpFormatter)
     reads.add_argument("archive", nargs="?", type=pathlib.Path, help="the archive (crates/dt_c/out/libdt_c.a)")
-    reads.add_argument("--datagrams", type=int, default=1_000_000, metavar="N", help="how many random datagrams (%(default)s)")
+    reads.add_argument(
+        "--datagrams", type=int, default=1_000_000, metavar="N", help="how many random datagrams (%(default)s)"
+    )
     given = reads.parse_args()
     if not any(ways()):
         skip("there is no compiler of C")
@@ -228,7 +297,10 @@ def main() -> int:
                 command = [driver, "-std=c99", *WARNINGS, "-gdwarf-4", f"-I{TOP / 'include'}", "-c", source, "-o", made]
                 tally.run(f"{source.name}, {driver}", command)
         for driver, language in ways():
-            tally.run(f"deltat.h, {driver}, {language.name}", compiled(driver, language, [folder / "alone.c"], folder / "alone.o", ["-c"]))
+            tally.run(
+                f"deltat.h, {driver}, {language.name}",
+                compiled(driver, language, [folder / "alone.c"], folder / "alone.o", ["-c"]),
+            )
             for program in PROGRAMS:
                 try_program(tally, program, driver, language, library, folder)
         for driver in (it for it in CPLUS if shutil.which(it)):

@@ -8,14 +8,14 @@ fault. Each of the two has the time that is given.
 
 With --minutes libFuzzer draws the inputs, of both side by side: those that reach other code of the library, or make
 something happen behind something else for the first time, are kept and drawn from again. For that the library's code is
-compiled once more: rattle proves crates/dt_c and hands what it would compile to a compiler between, which keeps it; then
-clang compiles the same with the address sanitizer in each function and a counter at each branch. So a read or a write
-beyond a block is seen in the library itself, not in its caller alone. It wants `rt` and a clang with libFuzzer. With
---plain the archive is linked as it is, which is faster, and only what happens is counted.
+compiled once more: rattle proves crates/dt_c and hands what it would compile to a compiler between, which keeps it;
+then clang compiles the same with the address sanitizer in each function and a counter at each branch. So a read or a
+write beyond a block is seen in the library itself, not in its caller alone. It wants `rt` and a clang with libFuzzer.
+With --plain the archive is linked as it is, which is faster, and only what happens is counted.
 
-With --seconds the archive is linked as it is by gcc or clang, and inputs are drawn by chance. Ends with 1 where an input
-fails, which is kept, cut down to the records that it takes, in a folder that is named; with 77 where there is no compiler
-or no archive. Before all that, the checks have to find fault with a library whose answers are spoilt.
+With --seconds the archive is linked as it is by gcc or clang, and inputs are drawn by chance. Ends with 1 where an
+input fails, which is kept, cut down to the records that it takes, in a folder that is named; with 77 where there is no
+compiler or no archive. Before all that, the checks have to find fault with a library whose answers are spoilt.
 
 In tests/all: --seconds 20, 1800 s."""
 import argparse
@@ -65,7 +65,9 @@ SOURCES = [Source("nodes", "fuzz.c", "spoil.c", 11), Source("services", "fuzz_se
 
 
 def run(words: Sequence[str | pathlib.Path], **more: object) -> "subprocess.CompletedProcess[str]":
-    return subprocess.run([str(it) for it in words], capture_output=True, text=True, errors="replace", check=False, **more)
+    return subprocess.run(
+        [str(it) for it in words], capture_output=True, text=True, errors="replace", check=False, **more
+    )
 
 
 def built(words: Sequence[str | pathlib.Path], out: pathlib.Path) -> pathlib.Path:
@@ -98,7 +100,9 @@ def instrumented(folder: pathlib.Path) -> pathlib.Path:
     return built([*clang, text, "-c", "-O1", "-fPIC", *counters], folder / "library.o")
 
 
-def alone(source: Source, archive: pathlib.Path, folder: pathlib.Path, compiler: str, *more: str | pathlib.Path) -> pathlib.Path:
+def alone(
+    source: Source, archive: pathlib.Path, folder: pathlib.Path, compiler: str, *more: str | pathlib.Path
+) -> pathlib.Path:
     """The program with a main of its own, over an archive or what is linked in its place."""
     words = [compiler, *FLAGS, "-DALONE", f"-fsanitize={SANITIZED}", "-fno-sanitize-recover=all"]
     return built([*words, HERE / source.program, *more, archive], folder / f"alone{len(list(folder.glob('alone*')))}")
@@ -109,7 +113,9 @@ def blind(source: Source, archive: pathlib.Path, folder: pathlib.Path, compiler:
     names = re.findall(r"__wrap_(\w+)\(", (HERE / source.spoil).read_text())
     wraps = [f"-Wl,--wrap={it}" for it in sorted(set(names))]
     program = alone(source, archive, folder, compiler, HERE / source.spoil, *wraps)
-    found = [run([program, "--count", str(ENOUGH)], env={**os.environ, "SPOIL": str(it)}) for it in range(source.spoils + 1)]
+    found = [
+        run([program, "--count", str(ENOUGH)], env={**os.environ, "SPOIL": str(it)}) for it in range(source.spoils + 1)
+    ]
     if found[0].returncode:
         sys.exit(f"a library that isn't spoilt fails:\n{found[0].stderr}")
     return [it for it, ran in enumerate(found) if it > 0 and ran.returncode == 0]
@@ -138,19 +144,26 @@ def smaller(program: pathlib.Path, octets: bytes, folder: pathlib.Path) -> bytes
     return octets
 
 
-def keep(source: Source, program: pathlib.Path, octets: bytes, said: str, folder: pathlib.Path, kept: pathlib.Path | None) -> None:
+def keep(
+    source: Source, program: pathlib.Path, octets: bytes, said: str, folder: pathlib.Path, kept: pathlib.Path | None
+) -> None:
     """Keeps an input that fails, and tells what it said."""
     kept = kept or pathlib.Path(tempfile.mkdtemp(prefix="deltat-library-fuzz-"))
     kept.mkdir(parents=True, exist_ok=True)
     octets = smaller(program, octets, folder)
     number = len(list(kept.glob("*.in"))) + 1
     (kept / f"{number:03}.in").write_bytes(octets)
-    (kept / f"{number:03}.why").write_text(f"{run([program, kept / f'{number:03}.in']).stderr or said}\n\ntests/library_fuzz.py --only {source.name} --input {kept / f'{number:03}.in'}\n")
+    (kept / f"{number:03}.why").write_text(
+        f"{run([program, kept / f'{number:03}.in']).stderr or said}\n\ntests/library_fuzz.py --only"
+        f" {source.name} --input {kept / f'{number:03}.in'}\n"
+    )
     print("\n".join(said.strip().splitlines()[:12]))
     print(f"an input of {(len(octets) - HEAD) // RECORD} records fails: {kept / f'{number:03}.in'}")
 
 
-def by_chance(source: Source, program: pathlib.Path, seconds: float, seed: int, folder: pathlib.Path, kept: pathlib.Path | None) -> int:
+def by_chance(
+    source: Source, program: pathlib.Path, seconds: float, seed: int, folder: pathlib.Path, kept: pathlib.Path | None
+) -> int:
     """Tries inputs, some thousand at a time, for so many seconds."""
     begun, tried, each = time.monotonic(), 0, 2_000
     while time.monotonic() - begun < seconds:
@@ -165,14 +178,34 @@ def by_chance(source: Source, program: pathlib.Path, seconds: float, seed: int, 
     return 0
 
 
-def by_coverage(source: Source, program: pathlib.Path, single: pathlib.Path, minutes: float, seed: int, folder: pathlib.Path, kept: pathlib.Path | None) -> int:
+def by_coverage(
+    source: Source,
+    program: pathlib.Path,
+    single: pathlib.Path,
+    minutes: float,
+    seed: int,
+    folder: pathlib.Path,
+    kept: pathlib.Path | None,
+) -> int:
     """Has libFuzzer draw inputs for so many minutes, and tells how many it tried."""
     corpus, found = folder / f"corpus-{source.name}", folder / f"found-{source.name}"
     corpus.mkdir()
     found.mkdir()
     # a busy machine lets an input wait: what is slow by the clock alone is no fault
-    words = [program, corpus, f"-max_total_time={max(int(minutes * 60), 1)}", f"-seed={seed}", f"-max_len={MOST}", "-len_control=0", "-timeout=3600",
-             "-report_slow_units=3600", "-rss_limit_mb=3000", "-print_final_stats=1", "-verbosity=1", f"-artifact_prefix={found}/"]
+    words = [
+        program,
+        corpus,
+        f"-max_total_time={max(int(minutes * 60), 1)}",
+        f"-seed={seed}",
+        f"-max_len={MOST}",
+        "-len_control=0",
+        "-timeout=3600",
+        "-report_slow_units=3600",
+        "-rss_limit_mb=3000",
+        "-print_final_stats=1",
+        "-verbosity=1",
+        f"-artifact_prefix={found}/",
+    ]
     begun = time.monotonic()
     status, wrote, processor = measured(words)
     seconds = time.monotonic() - begun
@@ -180,8 +213,11 @@ def by_coverage(source: Source, program: pathlib.Path, single: pathlib.Path, min
     reached = re.findall(r"cov: (\d+) ft: (\d+) corp: (\d+)", wrote)
     branches = re.search(r"\((\d+) inline 8-bit counters\)", wrote)
     cov, features, kept_count = reached[-1] if reached else ("0", "0", "0")
-    print(f"{source.name}: {figures.get('number_of_executed_units', '?')} inputs in {seconds:.0f} s, {processor:.0f} s of processor; {cov} branches reached"
-          f"{f' of {branches[1]}' if branches else ''}, {features} features, {kept_count} inputs kept; at most {figures.get('peak_rss_mb', '?')} MB; seed {seed}")
+    print(
+        f"{source.name}: {figures.get('number_of_executed_units', '?')} inputs in {seconds:.0f} s, {processor:.0f} s of"
+        f" processor; {cov} branches reached{f' of {branches[1]}' if branches else ''}, {features} features,"
+        f" {kept_count} inputs kept; at most {figures.get('peak_rss_mb', '?')} MB; seed {seed}"
+    )
     artifacts = sorted(found.iterdir())
     if status == 0 and not artifacts:
         return 0
@@ -198,7 +234,9 @@ def by_coverage(source: Source, program: pathlib.Path, single: pathlib.Path, min
 def measured(words: Sequence[str | pathlib.Path]) -> tuple[int, str, float]:
     """The status of a command, what it wrote on standard error, and its seconds of processor."""
     with tempfile.TemporaryFile("w+", errors="replace") as wrote:
-        child = subprocess.Popen([str(it) for it in words], stdin=subprocess.DEVNULL, stdout=subprocess.DEVNULL, stderr=wrote)
+        child = subprocess.Popen(
+            [str(it) for it in words], stdin=subprocess.DEVNULL, stdout=subprocess.DEVNULL, stderr=wrote
+        )
         _, status, used = os.wait4(child.pid, 0)
         child.returncode = os.waitstatus_to_exitcode(status)
         wrote.seek(0)
@@ -222,8 +260,13 @@ def tried(source: Source, code: pathlib.Path | None, folder: pathlib.Path, given
         ran = run([shipped, given.input])
         print(ran.stdout.strip() if ran.returncode == 0 else ran.stderr)
         return ran.returncode
-    program = built(["clang", *FLAGS, f"-fsanitize=fuzzer,{SANITIZED}", "-fno-sanitize-recover=all", HERE / source.program, code], folder / f"fuzz-{source.name}")
-    return by_coverage(source, program, alone(source, code, folder, "clang"), given.minutes, given.seed, folder, given.keep)
+    program = built(
+        ["clang", *FLAGS, f"-fsanitize=fuzzer,{SANITIZED}", "-fno-sanitize-recover=all", HERE / source.program, code],
+        folder / f"fuzz-{source.name}",
+    )
+    return by_coverage(
+        source, program, alone(source, code, folder, "clang"), given.minutes, given.seed, folder, given.keep
+    )
 
 
 def main() -> int:
@@ -233,7 +276,9 @@ def main() -> int:
     reads.add_argument("--seconds", type=positive, default=20, help="inputs by chance, for so long (%(default)s)")
     reads.add_argument("--minutes", type=positive, metavar="M", help="inputs that libFuzzer draws, for so long")
     reads.add_argument("--seed", type=int, default=1, help="what the inputs are drawn from (%(default)s)")
-    reads.add_argument("--keep", type=pathlib.Path, metavar="FOLDER", help="keep those that fail there (a new folder below /tmp)")
+    reads.add_argument(
+        "--keep", type=pathlib.Path, metavar="FOLDER", help="keep those that fail there (a new folder below /tmp)"
+    )
     reads.add_argument("--input", type=pathlib.Path, metavar="FILE", help="try this input alone")
     reads.add_argument("--plain", action="store_true", help="link the archive as it is")
     given = reads.parse_args()
@@ -248,7 +293,10 @@ def main() -> int:
         for it in [] if given.input else sources:
             unseen = blind(it, archive, folder, COMPILER)
             if unseen:
-                print(f"no fault found with a library that is spoilt in the way {', '.join(map(str, unseen))} of {it.spoil}")
+                print(
+                    f"no fault found with a library that is spoilt in the way {', '.join(map(str, unseen))} of"
+                    f" {it.spoil}"
+                )
                 return 1
         if given.input or not given.minutes:
             return max([tried(it, None, folder, given) for it in sources])

@@ -85,7 +85,12 @@ def main() -> int:
     ]
     status, log = run(path, "replay", SETUP + lost + "".join(f"{passes(HOUR // 60)}tick 2\n" for _ in range(60)))
     given_up = [words for words in log if words[2:4] == ["uncertain", "2:20>1:10"]]
-    rows.append(("an octet that nobody hears, for an hour", "" if status == 0 and len(given_up) == 1 else f"status {status}, {len(given_up)} given up"))
+    rows.append(
+        (
+            "an octet that nobody hears, for an hour",
+            "" if status == 0 and len(given_up) == 1 else f"status {status}, {len(given_up)} given up",
+        )
+    )
     return tell([(name, not why, why) for name, why in rows])
 
 

@@ -21,7 +21,7 @@ import tempfile
 import time
 from collections.abc import Iterator
 
-from lib import HOST, TOP, skip
+from lib import HOST, TOP, in_own_network, skip
 
 STOP = 1.0
 INSIDE = "DELTAT_TEST_INSIDE"
@@ -139,10 +139,8 @@ def main() -> int:
     if not archive.exists() or not shutil.which("cc"):
         skip(f"there is no compiler of C, or {archive} isn't there: make -C lib")
     if INSIDE not in os.environ:
-        if os.geteuid() or not shutil.which("unshare") or not shutil.which("ip"):
-            skip("only root can make a network namespace for it, with unshare and ip")
-        alone = ["unshare", "--net", "sh", "-c", 'ip link set lo up && exec "$0" "$@"']
-        os.execvpe(alone[0], [*alone, sys.executable, __file__, str(archive)], {**os.environ, INSIDE: "1"})
+        alone = in_own_network([sys.executable, __file__, str(archive)])
+        os.execvpe(alone[0], alone, {**os.environ, INSIDE: "1"})
     failed = count = 0
     with tempfile.TemporaryDirectory() as folder:
         for name, good, more in cases(archive, pathlib.Path(folder)):

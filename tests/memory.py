@@ -29,7 +29,8 @@ BEFORE_LIBC = r"""
 #include <errno.h>
 #include <stdlib.h>
 #include <unistd.h>
-void *__libc_malloc(size_t), *__libc_calloc(size_t, size_t), *__libc_realloc(void *, size_t), *__libc_memalign(size_t, size_t);
+void *__libc_malloc(size_t), *__libc_calloc(size_t, size_t);
+void *__libc_realloc(void *, size_t), *__libc_memalign(size_t, size_t);
 static long calls;
 static int refused(void) {
     const char *number = getenv("REFUSED_CALL"), *fd = getenv("REFUSED_FD");
@@ -54,7 +55,10 @@ ACKNOWLEDGEMENT = bytes.fromhex("0101000e000003e7000000020000000102000014000a000
 
 def without_moments(log):
     """The log of a node without its moments, which are the machine's."""
-    return b"".join(b" ".join(word for place, word in enumerate(line.split(b" ")) if place != (1 if line.startswith(b"end") else 0)) for line in log.splitlines(keepends=True))
+    return b"".join(
+        b" ".join(word for place, word in enumerate(line.split(b" ")) if place != (1 if line.startswith(b"end") else 0))
+        for line in log.splitlines(keepends=True)
+    )
 
 
 class Row:
@@ -94,7 +98,9 @@ def ran(path, row, library, call):
     """The row where this call for memory is refused: whether it was, and how the run ended."""
     reading, writing = os.pipe()
     env = {**os.environ, "LD_PRELOAD": library, "REFUSED_CALL": str(call), "REFUSED_FD": str(writing)}
-    run = subprocess.run([path, *row.words], input=row.given, capture_output=True, env=env, pass_fds=(writing,), check=False)
+    run = subprocess.run(
+        [path, *row.words], input=row.given, capture_output=True, env=env, pass_fds=(writing,), check=False
+    )
     os.close(writing)
     was_refused = os.read(reading, 1) == b"r"
     os.close(reading)
@@ -129,7 +135,9 @@ def main():
     path, names = program(), sys.argv[2:] or list(ROWS)
     with tempfile.TemporaryDirectory() as folder:
         library = os.path.join(folder, "refuses.so")
-        subprocess.run(["cc", "-shared", "-fPIC", "-O1", "-o", library, "-x", "c", "-"], input=BEFORE_LIBC.encode(), check=True)
+        subprocess.run(
+            ["cc", "-shared", "-fPIC", "-O1", "-o", library, "-x", "c", "-"], input=BEFORE_LIBC.encode(), check=True
+        )
         wrong = [line for name in names for line in wrong_runs(path, name, library)]
     for line in wrong:
         print(line)

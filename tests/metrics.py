@@ -209,7 +209,8 @@ def counts(built: Built, folder: pathlib.Path) -> str:
     wants(value(near, "queued_octets") == 600 * 3008, f"{sums}")
     wants(value(near, "sent_octets") == value(near, "queued_octets") and sums["sent_segments"] == 1800, f"{sums}")
     seen = len(relay.first), relay.again
-    # (the driver repeats the first frame, and not the node: behind the proof that the client hears, and when it asks again)
+    # (the driver repeats the first frame, and not the node: behind the proof that the client hears, and when it asks
+    # again)
     wants(
         seen[0] == sums["sent_segments"] and 0 <= seen[1] - sums["resent_segments"] <= 3 and seen[1] > 20,
         f"the relay saw {seen}: {sums}",

@@ -1,8 +1,8 @@
 #!/usr/bin/env python3
-"""The contracts of the pure parts of the node in micro/: which fault a datagram has, or none; what an accepted packet keeps;
-no read beyond the octets; and the nine rows of the receive table. They are written in deltat_micro.c, and Frama-C tries them
-with cvc4, through why3: `tests/micro_contracts.py [--seconds S]`. Ends with 1 where one isn't proved in its time, and with
-77 where a tool is missing.
+"""The contracts of the pure parts of the node in micro/: which fault a datagram has, or none; what an accepted packet
+keeps; no read beyond the octets; and the nine rows of the receive table. They are written in deltat_micro.c, and
+Frama-C tries them with cvc4, through why3: `tests/micro_contracts.py [--seconds S]`. Ends with 1 where one isn't proved
+in its time, and with 77 where a tool is missing.
 
 In tests/all: no words, 600 s."""
 from __future__ import annotations
@@ -34,10 +34,24 @@ def main() -> int:
     with tempfile.TemporaryDirectory() as home:
         settings = {**os.environ, "HOME": home}
         subprocess.run(["why3", "config", "detect"], capture_output=True, check=False, env=settings)
-        words = ["frama-c", "-machdep", "x86_32", "-wp", "-wp-rte", "-wp-prover", "cvc4", "-wp-timeout", "60", "-wp-par", "2"]
+        words = [
+            "frama-c",
+            "-machdep",
+            "x86_32",
+            "-wp",
+            "-wp-rte",
+            "-wp-prover",
+            "cvc4",
+            "-wp-timeout",
+            "60",
+            "-wp-par",
+            "2",
+        ]
         words += ["-wp-fct", ",".join(PURE), str(SOURCE)]
         try:
-            ran = subprocess.run(words, capture_output=True, text=True, check=False, env=settings, timeout=given.seconds)
+            ran = subprocess.run(
+                words, capture_output=True, text=True, check=False, env=settings, timeout=given.seconds
+            )
         except subprocess.TimeoutExpired:
             print(f"not all goals were tried in {given.seconds} s: the machine is busy, or one got harder")
             return 1

@@ -28,13 +28,24 @@ def pair(path: str) -> bool:
     passing.start()
     nodes = []
     for i in (0, 1):
-        commands = [f"at 200 send {flows[i]} be {messages[i].hex()}", f"at 11000 read {flows[1 - i]} 65536", "at 11100 stop"]
-        nodes.append(start(path, script(i + 1, 2 - i, ports[i], ends[i].getsockname()[1], commands), err=subprocess.DEVNULL))
+        commands = [
+            f"at 200 send {flows[i]} be {messages[i].hex()}",
+            f"at 11000 read {flows[1 - i]} 65536",
+            "at 11100 stop",
+        ]
+        nodes.append(
+            start(path, script(i + 1, 2 - i, ports[i], ends[i].getsockname()[1], commands), err=subprocess.DEVNULL)
+        )
     logs = [node.stdout.read().decode() for node in nodes]
     statuses = [node.wait() for node in nodes]
     passing.join()
     print(f"pair: {told[1]} datagrams passed, {told[0]} dropped, {told[2]} repeated")
-    return statuses == [0, 0] and told[0] > 0 and told[2] > 0 and all(read_of(logs[i], flows[1 - i]) == messages[1 - i] for i in (0, 1))
+    return (
+        statuses == [0, 0]
+        and told[0] > 0
+        and told[2] > 0
+        and all(read_of(logs[i], flows[1 - i]) == messages[1 - i] for i in (0, 1))
+    )
 
 
 def memory_of(pid: int) -> int:

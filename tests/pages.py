@@ -50,7 +50,12 @@ SPOILT = [
         "\n",
         "\nThe function `" + "_".join(["nobody", "wrote", "this"]) + "` does it.\n",
     ),
-    ("a writer of a rule that isn't listed", "docs/architecture.md", "`micro/deltat_micro.c`, `tests/station_model.py`", "`tests/station_model.py`"),
+    (
+        "a writer of a rule that isn't listed",
+        "docs/architecture.md",
+        "`micro/deltat_micro.c`, `tests/station_model.py`",
+        "`tests/station_model.py`",
+    ),
     ("a decision about a file that isn't there", "docs/decisions.txt", "dt_make/src/lib.rt:", "dt_make/src/libs.rt:"),
     ("a list of the headline that differs", "docs/headline.md", "Carried 35, Safe 42,", "Carried 35, Safe 41,"),
     ("a file that says nothing of itself", "crates/dt_relay/proofs/Links.antt", "-- Out links by", "use Out links by"),

@@ -5,8 +5,8 @@ Usage: tests/parameters.py [PROGRAM] [--write]
 
 - Each row of the table names its words for tools/params.py, and its cells are what follows from them. With
   --write the rows are written anew, and nothing else is done.
-- The examples have the numbers of the row that the page names, or those for which they name the words, and one script has
-  a shelf.
+- The examples have the numbers of the row that the page names, or those for which they name the words, and one script
+  has a shelf.
 - Two nodes with a tenth of the packets lost each way: node 1 sends 100 messages of 30 octets, one each 40 ms.
   With round numbers many are reported uncertain, as with those of the Internet without a shelf, or with one for which
   packets don't live long enough; with those of examples/, and of an office, hardly any.
@@ -40,7 +40,12 @@ OWN = {"serial.c", "hello.c", "hello.py"}
 
 def told(words: str) -> list[str]:
     """What tools/params.py tells for these words."""
-    run = subprocess.run([sys.executable, str(TOP / "tools" / "params.py"), *shlex.split(words)], capture_output=True, text=True, check=True)
+    run = subprocess.run(
+        [sys.executable, str(TOP / "tools" / "params.py"), *shlex.split(words)],
+        capture_output=True,
+        text=True,
+        check=True,
+    )
     return run.stdout.splitlines()
 
 
@@ -79,8 +84,8 @@ def write() -> None:
 
 
 def has_numbers_of(words: str, text: str) -> bool:
-    """Whether a service has the numbers that tools/params.py tells for these words, and its charge but for the wait in this
-    machine's socket, which the service measures."""
+    """Whether a service has the numbers that tools/params.py tells for these words, and its charge but for the wait in
+    this machine's socket, which the service measures."""
     numbers, charge, *_ = told(words)
     first = [int(it) for it in numbers.split()[1:10]]
     delay, round_trip = words.split()
@@ -103,9 +108,20 @@ def computes(words: str, text: str) -> bool:
 def examples(numbers: str, charge: str) -> list[tuple[str, bool, str]]:
     """Whether each example has these numbers and this charge."""
     first, room = numbers.split()[:6], numbers.split()[6]
-    charges = {".script": rf"^peer 1 \S+ {charge} 0$", ".schedule": rf"^link 1 1 2 {charge} 0\nlink 2 2 1 {charge} 0$", ".calls": rf"^link 1 1 2 {charge} 0\nlink 2 2 1 {charge} 0$",
-               ".py": rf"Link\(1, charge={charge}\)", ".c": rf"\.charge = {charge}\b"}
-    forms = {".py": ", ".join(f"{name}={it}" for name, it in zip("mpl r a rto probe seg cap rcap window".split(), [*first, room, room, room])), ".c": ", ".join([*first, room, room, room])}
+    charges = {
+        ".script": rf"^peer 1 \S+ {charge} 0$",
+        ".schedule": rf"^link 1 1 2 {charge} 0\nlink 2 2 1 {charge} 0$",
+        ".calls": rf"^link 1 1 2 {charge} 0\nlink 2 2 1 {charge} 0$",
+        ".py": rf"Link\(1, charge={charge}\)",
+        ".c": rf"\.charge = {charge}\b",
+    }
+    forms = {
+        ".py": ", ".join(
+            f"{name}={it}"
+            for name, it in zip("mpl r a rto probe seg cap rcap window".split(), [*first, room, room, room])
+        ),
+        ".c": ", ".join([*first, room, room, room]),
+    }
     cases, shelves = [], 0
     for path in sorted(it for it in (TOP / "examples").iterdir() if it.suffix in charges and it.name not in OWN):
         text = path.read_text()
@@ -118,13 +134,31 @@ def examples(numbers: str, charge: str) -> list[tuple[str, bool, str]]:
         # (one has shorter segments, since it wants several)
         wanted = forms.get(path.suffix, f"params {' '.join(first[:5])} ")
         shelves += bool(re.search(r"^shelf \d+$", text, re.MULTILINE))
-        cases.append((f"the numbers of {path.name}", wanted in text and bool(re.search(charges[path.suffix], text, re.MULTILINE)), ""))
+        cases.append(
+            (
+                f"the numbers of {path.name}",
+                wanted in text and bool(re.search(charges[path.suffix], text, re.MULTILINE)),
+                "",
+            )
+        )
     return [*cases, ("an example with a shelf", shelves == 1 and len(cases) > 6, f"{len(cases)} examples")]
 
 
 def script(me: int, numbers: str, charge: int, ports: tuple[int, int], further: list[str]) -> str:
     """The script of node 1 or 2 of a pair."""
-    return "\n".join([f"params {numbers}", f"me {me} first", f"local {HOST}:{ports[0]}", f"peer 1 {HOST}:{ports[1]} {charge} 0", f"route {3 - me} 1", *further]) + "\n"
+    return (
+        "\n".join(
+            [
+                f"params {numbers}",
+                f"me {me} first",
+                f"local {HOST}:{ports[0]}",
+                f"peer 1 {HOST}:{ports[1]} {charge} 0",
+                f"route {3 - me} 1",
+                *further,
+            ]
+        )
+        + "\n"
+    )
 
 
 def lossy(program: str, numbers: str, charge: int, shelf: list[str]) -> tuple[int, int]:
@@ -135,7 +169,10 @@ def lossy(program: str, numbers: str, charge: int, shelf: list[str]) -> tuple[in
     reads = [f"at {it} read 1:10>2:20 65536" for it in range(600, end, 100)]
     with Between(lambda _node, _octets: int(chance.random() >= 0.1)) as between:
         ends = [(between.nodes[it - 1], between.port(it)) for it in (1, 2)]
-        texts = [script(it, numbers, charge, ends[it - 1], [*shelf, "go", *does, f"at {end} stop"]) for it, does in ((1, sends), (2, reads))]
+        texts = [
+            script(it, numbers, charge, ends[it - 1], [*shelf, "go", *does, f"at {end} stop"])
+            for it, does in ((1, sends), (2, reads))
+        ]
         nodes = [start(program, text) for text in reversed(texts)]
         logs: list[str] = ["", ""]
 
@@ -164,13 +201,24 @@ def main() -> int:
     cases = [(f"the row {row[0]}", row[2:] == cells(row[1].strip("`")), "") for _, row in table]
     cases.append(("rows", len(table) >= 5, f"{len(table)}"))
     bare_spans = cells(next(row[1].strip("`") for _, row in table if row[0].startswith("the Internet")))[2:4]
-    rack, satellite = (cells(next(row[1].strip("`") for _, row in table if row[0].startswith(name))) for name in ("a rack", "a geo"))
+    rack, satellite = (
+        cells(next(row[1].strip("`") for _, row in table if row[0].startswith(name))) for name in ("a rack", "a geo")
+    )
     says = f"that is {rack[2].removesuffix(' ms')} and {rack[3].removesuffix(' ms')} milliseconds"
     says_more = f"over a continent {bare_spans[0].removesuffix(' s')} and {bare_spans[1].removesuffix(' s')} seconds"
     says_too = f"over a satellite {satellite[2].removesuffix(' s')} and {satellite[3].removesuffix(' s')} seconds"
     answers = (TOP / "docs" / "faq.md").read_text()
-    cases.append(("the numbers of docs/faq.md", all(it in answers for it in (says, says_more, says_too)), f"{says}; {says_more}; {says_too}"))
-    bare, shelved, office = (told(next(row[1].strip("`") for _, row in table if row[0].startswith(name))) for name in ("the Internet", "the same", "an office"))
+    cases.append(
+        (
+            "the numbers of docs/faq.md",
+            all(it in answers for it in (says, says_more, says_too)),
+            f"{says}; {says_more}; {says_too}",
+        )
+    )
+    bare, shelved, office = (
+        told(next(row[1].strip("`") for _, row in table if row[0].startswith(name)))
+        for name in ("the Internet", "the same", "an office")
+    )
     charge = shelved[1].split()[1].rstrip(":")
     cases += examples(shelved[0].removeprefix("params "), charge)
     tries = {
@@ -192,7 +240,9 @@ def main() -> int:
         it.join()
     for name, (accepted, uncertain) in counts.items():
         right = uncertain <= MOST[name] if name in MOST else uncertain > LEAST
-        cases.append((f"a tenth lost, {name}", right, f"{accepted} of {MESSAGES} accepted, {uncertain} reported uncertain"))
+        cases.append(
+            (f"a tenth lost, {name}", right, f"{accepted} of {MESSAGES} accepted, {uncertain} reported uncertain")
+        )
     return tell(cases)
 
 

@@ -129,7 +129,9 @@ def compare(library: Library, network: Network) -> None:
 def refuse(library: Library) -> int:
     """Ends the test where something unfit isn't refused; how much was tried."""
     good, unchanged = ROWS[2], (INVALID, (7,) * 11, 7)
-    tried = [library.suited(good, size=size) for size in (0, 40, 47, 49, 56)] + [library.suited(good, room=room) for room in (0, 44, 47)]
+    tried = [library.suited(good, size=size) for size in (0, 40, 47, 49, 56)] + [
+        library.suited(good, room=room) for room in (0, 44, 47)
+    ]
     for name, most in MOST.items():
         for value in ([most + 1] + ([LEAST[name] - 1] if name in LEAST else [])):
             tried.append(library.suited(replace(good, **{name: value})))
@@ -155,7 +157,9 @@ def main() -> None:
     for _ in range(words.networks):
         compare(library, drawn(dice))
     refused = refuse(library)
-    print(f"params_for: {len(ROWS) + words.networks} networks as tools/params.py has them, {refused} unfit ones refused")
+    print(
+        f"params_for: {len(ROWS) + words.networks} networks as tools/params.py has them, {refused} unfit ones refused"
+    )
 
 
 if __name__ == "__main__":

@@ -1,5 +1,6 @@
 #!/usr/bin/env python3
-"""bench/peers.py over its bad link, shortly: plain UDP, TCP and two nodes. `tests/peers.py [PROGRAM]`. Ends with 1 where
+"""bench/peers.py over its bad link, shortly: plain UDP, TCP and two nodes. `tests/peers.py [PROGRAM]`. Ends with 1
+where
 
 - a measure has no figure, but those that a peer doesn't have;
 - a request of plain UDP isn't served twice where its packets come once more, which shows that they do come, or one of
@@ -60,14 +61,22 @@ def serving() -> list[tuple[str, bool, str]]:
     begun = time.monotonic()
     link = ran([*WAN, "0", "0", "0", "0", "--serve", "--", "sleep", "100", "--", "sh", "-c", "exit 3"])
     is_quick = time.monotonic() - begun < 20
-    return [("a server is stopped, and the client's status told", is_quick and link.returncode == 3, f"status {link.returncode}")]
+    return [
+        (
+            "a server is stopped, and the client's status told",
+            is_quick and link.returncode == 3,
+            f"status {link.returncode}",
+        )
+    ]
 
 
 def refused(path: str) -> list[tuple[str, bool, str]]:
     cases = []
     for words in ([path, "--networks", "1"], [path, "--networks", "1/200"], ["/nowhere"], [path, "--peers", "nobody"]):
         bench = ran([*BENCH, *words])
-        cases.append((f"refused: {' '.join(words[-2:])}", bench.returncode == 2 and "error" in bench.stderr, last(bench.stderr)))
+        cases.append(
+            (f"refused: {' '.join(words[-2:])}", bench.returncode == 2 and "error" in bench.stderr, last(bench.stderr))
+        )
     return cases
 
 

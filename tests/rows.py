@@ -36,7 +36,9 @@ def ran_into(path, word, given, room):
         resource.setrlimit(resource.RLIMIT_FSIZE, (room, room))
 
     with tempfile.TemporaryFile() as out:
-        run = subprocess.run([path, word], input=given, stdout=out, stderr=subprocess.PIPE, preexec_fn=limit, check=False)
+        run = subprocess.run(
+            [path, word], input=given, stdout=out, stderr=subprocess.PIPE, preexec_fn=limit, check=False
+        )
         out.seek(0)
         return run.returncode, out.read()
 
@@ -52,7 +54,9 @@ def main():
     path, named = program(), sys.argv[2:]
     rows = [line.split() for line in (ROWS / "stdin").read_text().splitlines()]
     wrong = [(name, why) for name, word, status in rows if (why := differs(path, name, word, int(status)))]
-    wrong += [(name, why) for name, word, _ in rows if name in named and (why := differs_in_less_room(path, name, word))]
+    wrong += [
+        (name, why) for name, word, _ in rows if name in named and (why := differs_in_less_room(path, name, word))
+    ]
     for name, why in wrong:
         print(f"{name}: {why}")
     print(f"{len(rows) - len(wrong)} of {len(rows)} rows hold")

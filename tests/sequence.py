@@ -84,8 +84,12 @@ tick 1
 tick 2
 tick 3
 """
-QUEUE = SETUP + "link 1 1 2 50 30\nlink 2 2 1 50 0\nroute 1 2 1\nroute 2 1 2\ngo\n" + "send 1:10>2:20 be 61\n" * 5 + "".join(
-    f"pass 30\ntick 1\narrive {i}\n" for i in (0, 2, 4, 6))
+QUEUE = (
+    SETUP
+    + "link 1 1 2 50 30\nlink 2 2 1 50 0\nroute 1 2 1\nroute 2 1 2\ngo\n"
+    + "send 1:10>2:20 be 61\n" * 5
+    + "".join(f"pass 30\ntick 1\narrive {i}\n" for i in (0, 2, 4, 6))
+)
 
 
 class Arrow(NamedTuple):
@@ -120,7 +124,11 @@ def plain(schedule: str, log: str) -> list[Arrow]:
             fates[int(it[1])].append(f"came {'once more ' if came else ''}at {now:,} ms")
         elif it[0] == "lose":
             fates[int(it[1])].append(f"lost at {now:,} ms")
-    return [Arrow(way, packet, fate) for number, (way, packet) in copies.items() for fate in fates[number] or ["nothing more is told of it"]]
+    return [
+        Arrow(way, packet, fate)
+        for number, (way, packet) in copies.items()
+        for fate in fates[number] or ["nothing more is told of it"]
+    ]
 
 
 def copies_of(log: str, links: dict, routes: dict, words: list[list[str]]) -> dict[int, tuple[str, str]]:
@@ -137,11 +145,17 @@ def copies_of(log: str, links: dict, routes: dict, words: list[list[str]]) -> di
         if made:
             ack = made[1] in ("acked", "replied")
             to = made[2] if ack else made[3]
-            queues.setdefault((it[1], routes.get((it[1], to), "")), []).append((to, f"{it[3]} {text_of(made[1], it[4:])}"))
+            queues.setdefault((it[1], routes.get((it[1], to), "")), []).append(
+                (to, f"{it[3]} {text_of(made[1], it[4:])}")
+            )
         elif it[2] == "put":
             queue = queues.setdefault((it[1], it[3]), [])
             if not queue:  # one that passes: the next that came here for a node beyond
-                number = next(n for n in passing if n in packets and links_end(copies[n]) == it[1] and routes.get((it[1], packets[n][0])) == it[3])
+                number = next(
+                    n
+                    for n in passing
+                    if n in packets and links_end(copies[n]) == it[1] and routes.get((it[1], packets[n][0])) == it[3]
+                )
                 passing.remove(number)
                 queue.append(packets[number])
             packets[int(it[6])] = queue.pop(0)
@@ -187,7 +201,10 @@ def picture(program: str) -> tuple[bool, str]:
 
 def schedules(program: str) -> dict[str, str]:
     """The schedules of all cases by their names."""
-    made = {f"make {n}": subprocess.run([program, "make", str(n)], capture_output=True, text=True, check=True).stdout for n in (1, 40, 200)}
+    made = {
+        f"make {n}": subprocess.run([program, "make", str(n)], capture_output=True, text=True, check=True).stdout
+        for n in (1, 40, 200)
+    }
     examples = {it.name: it.read_text("ascii") for it in sorted((ROOT / "examples").glob("*.schedule"))}
     return {**examples, "relay": RELAY, "queue": QUEUE, **made}
 
@@ -213,12 +230,15 @@ def parted(log: str, zeros: dict[str, int]) -> list[str]:
     for line in log.splitlines():
         it = line.split(" ")
         if len(it) > 2 and it[0].isdigit() and it[1] != "lost":
-            logs.setdefault(it[1], []).append(" ".join([str(int(it[0]) + zeros.get(it[1], 0)), *it[1:]]).split(" as ")[0])
+            logs.setdefault(it[1], []).append(
+                " ".join([str(int(it[0]) + zeros.get(it[1], 0)), *it[1:]]).split(" as ")[0]
+            )
     return ["\n".join([*lines, "end 99999"]) + "\n" for lines in logs.values()]
 
 
 def bare(arrow: Arrow) -> Arrow:
-    """An arrow without moments. Where nothing more is told of a copy, logs alone can't tell it from one that was lost."""
+    """An arrow without moments. Where nothing more is told of a copy, logs alone can't tell it from one that was
+    lost."""
     fate = "gone" if arrow.fate.startswith(("lost", "no", "nothing")) else arrow.fate.split(" at ")[0]
     return arrow._replace(fate=fate)
 
@@ -246,24 +266,49 @@ def one(program: str) -> tuple[bool, str]:
     part = parted(log, {})[0]
     there = drawn(svg_of(part))
     left = sum(" put " in line for line in part.splitlines())
-    came = sum(line.split(" ")[2] in ("settled", "ignored", "accepted", "replied", "dropped") for line in part.splitlines() if len(line.split(" ")) > 2)
+    came = sum(
+        line.split(" ")[2] in ("settled", "ignored", "accepted", "replied", "dropped")
+        for line in part.splitlines()
+        if len(line.split(" ")) > 2
+    )
     good = sum(it.way == "1 to 2" for it in there) == left and sum(it.way == "2 to 1" for it in there) == came
     return good, f"{left} packets left and {came} came in the log of one node; {len(there)} arrows"
 
 
 # Each text's box, and what is wrong with it.
 CHECK = """<script>
-const boxes = [...document.querySelectorAll("svg text")].map((it) => [it, it.getBoundingClientRect()]).filter(([, b]) => b.width);
+const all = [...document.querySelectorAll("svg text")].map((it) => [it, it.getBoundingClientRect()]);
+const boxes = all.filter(([, b]) => b.width);
 const frame = document.querySelector("svg").getBoundingClientRect(), wrong = [];
-const straight = boxes.filter(([it]) => !it.classList.contains("label")).map(([it, b]) => [it.firstChild.textContent, b]);
-for (const [text, b] of boxes.map(([it, b]) => [it.firstChild.textContent, b])) if (b.left < frame.left || b.right > frame.right || b.top < frame.top || b.bottom > frame.bottom) wrong.push("cut off: " + text);
+const named = ([it, b]) => [it.firstChild.textContent, b];
+const isLabel = ([it]) => it.classList.contains("label");
+const straight = boxes.filter((it) => !isLabel(it)).map(named);
+const isOutside = (b) => b.left < frame.left || b.right > frame.right || b.top < frame.top || b.bottom > frame.bottom;
+for (const [text, b] of boxes.map(named)) if (isOutside(b)) wrong.push("cut off: " + text);
 straight.sort((a, b) => a[1].top - b[1].top);
-straight.forEach(([text, a], i) => { for (let j = i + 1; j < straight.length && straight[j][1].top < a.bottom; j += 1) { const b = straight[j][1]; if (a.left < b.right && b.left < a.right && b.top < a.bottom - 1.5) wrong.push(text + " hides " + straight[j][0]); } });
-const place = (it) => { const m = it.getScreenCTM(), n = it.getComputedTextLength() / 2, points = []; for (let at = -n; at <= n; at += 6) points.push([m.a * at + m.c * -8 + m.e, m.b * at + m.d * -8 + m.f]); return points; };
-const labels = boxes.filter(([it]) => it.classList.contains("label")).map(([it, b]) => [it.textContent, b, place(it)]).sort((a, b) => a[1].top - b[1].top);
-let hidden = 0;
-labels.forEach(([text, a, points], i) => { for (let j = i + 1; j < labels.length && labels[j][1].top < a.bottom; j += 1) if (points.some((p) => labels[j][2].some((q) => Math.hypot(p[0] - q[0], p[1] - q[1]) < 8))) { hidden += 1; wrong.push(text + " hides " + labels[j][0]); } });
-const told = document.createElement("pre"); told.id = "told"; told.textContent = JSON.stringify({ texts: boxes.length, wrong: wrong.slice(0, 5), count: wrong.length }); document.body.append(told);
+straight.forEach(([text, a], i) => {
+  for (let j = i + 1; j < straight.length && straight[j][1].top < a.bottom; j += 1) {
+    const b = straight[j][1];
+    if (a.left < b.right && b.left < a.right && b.top < a.bottom - 1.5) wrong.push(text + " hides " + straight[j][0]);
+  }
+});
+const place = (it) => {
+  const m = it.getScreenCTM(), n = it.getComputedTextLength() / 2, points = [];
+  for (let at = -n; at <= n; at += 6) points.push([m.a * at + m.c * -8 + m.e, m.b * at + m.d * -8 + m.f]);
+  return points;
+};
+const labels = boxes.filter(isLabel).map(([it, b]) => [it.textContent, b, place(it)]);
+labels.sort((a, b) => a[1].top - b[1].top);
+const isNear = (p, q) => Math.hypot(p[0] - q[0], p[1] - q[1]) < 8;
+labels.forEach(([text, a, points], i) => {
+  for (let j = i + 1; j < labels.length && labels[j][1].top < a.bottom; j += 1) {
+    if (points.some((p) => labels[j][2].some((q) => isNear(p, q)))) wrong.push(text + " hides " + labels[j][0]);
+  }
+});
+const told = document.createElement("pre");
+told.id = "told";
+told.textContent = JSON.stringify({ texts: boxes.length, wrong: wrong.slice(0, 5), count: wrong.length });
+document.body.append(told);
 </script>"""
 
 
@@ -292,8 +337,13 @@ def layout(program: str) -> tuple[bool, str]:
 
 DROP = """<script>
 const give = %s;
-opened(give.map((it) => new File([it.text], it.name))).then(() => { const told = document.createElement("pre"); told.id = "told";
-  told.textContent = JSON.stringify({ svg: document.getElementById("picture").innerHTML, fault: document.getElementById("fault").textContent }); document.body.append(told); });
+opened(give.map((it) => new File([it.text], it.name))).then(() => {
+  const told = document.createElement("pre");
+  const [svg, fault] = [document.getElementById("picture").innerHTML, document.getElementById("fault").textContent];
+  told.id = "told";
+  told.textContent = JSON.stringify({ svg, fault });
+  document.body.append(told);
+});
 </script>"""
 
 
@@ -306,13 +356,23 @@ def dropped(texts: list[dict[str, str]]) -> dict:
 def page(program: str) -> tuple[bool, str]:
     texts = sequence.texts_of([str(EXAMPLE)], program)
     same = dropped(texts).get("svg", "").strip() == sequence.picture_of(sequence.page_of(texts)).strip()
-    faults = {"no log": [texts[0]], "a script": [{"name": "node-1.script", "text": (ROOT / "examples/node-1.script").read_text("ascii")}],
-              "noise": [{"name": "noise", "text": "\x00\x01 noise <b>"}], "nothing": [{"name": "nothing", "text": ""}]}
+    faults = {
+        "no log": [texts[0]],
+        "a script": [{"name": "node-1.script", "text": (ROOT / "examples/node-1.script").read_text("ascii")}],
+        "noise": [{"name": "noise", "text": "\x00\x01 noise <b>"}],
+        "nothing": [{"name": "nothing", "text": ""}],
+    }
     told = {name: dropped(it).get("fault", "") for name, it in faults.items()}
     silent = [name for name, it in told.items() if not it]
     refused = replay_fault(program)
     good = same and not silent and refused
-    return good, f"a drop draws {'the same' if same else 'ANOTHER picture'}; {len(told) - len(silent)} of {len(told)} wrong drops are told; a refused schedule is {'drawn with its fault' if refused else 'NOT drawn'}"
+    return (
+        good,
+        (
+            f"a drop draws {'the same' if same else 'ANOTHER picture'}; {len(told) - len(silent)} of {len(told)} wrong"
+            f" drops are told; a refused schedule is {'drawn with its fault' if refused else 'NOT drawn'}"
+        ),
+    )
 
 
 def replay_fault(program: str) -> bool:
@@ -342,17 +402,32 @@ def look(program: str) -> tuple[bool, str]:
         pathlib.Path(path).write_text(texts, encoding="utf-8")
         for name, scheme in (("light", 1), ("dark", 0)):
             shot = os.path.join(folder, f"{name}.png")
-            sequence.headless(path, f"--screenshot={shot}", "--window-size=1000,700", f"--blink-settings=preferredColorScheme={scheme}")
+            sequence.headless(
+                path,
+                f"--screenshot={shot}",
+                "--window-size=1000,700",
+                f"--blink-settings=preferredColorScheme={scheme}",
+            )
             seen[name] = pixels(shot)
-    good = seen["light"][0] == (255, 255, 255) and seen["dark"][0] == (18, 22, 28) and min(it[1] for it in seen.values()) > 20000
+    good = (
+        seen["light"][0] == (255, 255, 255)
+        and seen["dark"][0] == (18, 22, 28)
+        and min(it[1] for it in seen.values()) > 20000
+    )
     return good, ", ".join(f"{name}: paper {colour}, {size} octets of picture" for name, (colour, size) in seen.items())
 
 
 def alone(program: str) -> tuple[bool, str]:
     svg = PICTURE.read_text(encoding="utf-8") if PICTURE.exists() else ""
     texts = sequence.page_of(sequence.texts_of([str(EXAMPLE)], program))
-    named = [it for text in (texts, svg) for it in re.findall(r"(?:https?:)?//[a-z][^\s\"'<]*|@import|url\(|\bsrc=|\bhref=|\bfetch\(|XMLHttp|WebSocket", text)
-             if it not in ("http://www.w3.org/2000/svg",) and not it.startswith("// ")]
+    named = [
+        it
+        for text in (texts, svg)
+        for it in re.findall(
+            r"(?:https?:)?//[a-z][^\s\"'<]*|@import|url\(|\bsrc=|\bhref=|\bfetch\(|XMLHttp|WebSocket", text
+        )
+        if it not in ("http://www.w3.org/2000/svg",) and not it.startswith("// ")
+    ]
     xml.dom.minidom.parseString(svg.encode() or b"<none/>")
     kept = "default-src 'none'" in texts and "<script" not in svg
     return not named and kept and bool(svg), f"{named or 'nothing'} is named that would be fetched"
@@ -360,7 +435,9 @@ def alone(program: str) -> tuple[bool, str]:
 
 def main() -> int:
     parser = argparse.ArgumentParser(description=__doc__, formatter_class=argparse.RawDescriptionHelpFormatter)
-    parser.add_argument("program", nargs="?", default=str(ROOT / "crates/deltat/out/deltat"), help="the program (default: %(default)s)")
+    parser.add_argument(
+        "program", nargs="?", default=str(ROOT / "crates/deltat/out/deltat"), help="the program (default: %(default)s)"
+    )
     parser.add_argument("only", nargs="*", help="cases (default: all)")
     given = parser.parse_args()
     program = os.path.abspath(given.program)

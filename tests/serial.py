@@ -1,7 +1,7 @@
 #!/usr/bin/env python3
 """examples/serial.c on two pseudo terminals, between which stands a line that flips octets and loses some.
-`tests/serial.py`; ends with 77 where `make -C lib` hasn't made the library or there is no compiler, and with 1 where one
-of these fails:
+`tests/serial.py`; ends with 77 where `make -C lib` hasn't made the library or there is no compiler, and with 1 where
+one of these fails:
 
 - stuffing: a clean line brings each line once and whole, with octets of all values and of all lengths about those at
   which the stuffing counts anew.
@@ -107,7 +107,10 @@ class End:
 
 def stuffing(program: str) -> bool:
     chance = random.Random(3)
-    sent = [bytes(chance.choice([value for value in range(256) if value != 10]) for _ in range(length)) for length in (1, 2, 92, 93, 94, 95, 96, 97, 120, 127, 128, 129, 252, 253, 254, 255, 256, 257, 600)]
+    sent = [
+        bytes(chance.choice([value for value in range(256) if value != 10]) for _ in range(length))
+        for length in (1, 2, 92, 93, 94, 95, 96, 97, 120, 127, 128, 129, 252, 253, 254, 255, 256, 257, 600)
+    ]
     sent += [bytes([0]) * length for length in (1, 200, 256, 300)] + [bytes(range(11, 256))]
     with Line(lambda octet: bytes([octet])) as line:
         one, two = End(program, line, 1), End(program, line, 2)
@@ -139,8 +142,17 @@ def noise(program: str) -> bool:
     right = True
     for number, other in ((1, 2), (2, 1)):
         missing = sum(len(it) for it in sent[other] if it not in came[number])
-        print(f"noise: node {number} got {len(came[number])} of 100 lines, {told[number][0]} frames spoilt; {missing} octets missing, {told[other][1]} told as uncertain")
-        right = right and is_order(came[number], sent[other]) and missing <= told[other][1] and told[number][0] > 0 and len(came[number]) > 80
+        print(
+            f"noise: node {number} got {len(came[number])} of 100 lines, {told[number][0]} frames spoilt;"
+            f" {missing} octets missing, {told[other][1]} told as uncertain"
+        )
+        right = (
+            right
+            and is_order(came[number], sent[other])
+            and missing <= told[other][1]
+            and told[number][0] > 0
+            and len(came[number]) > 80
+        )
     return right
 
 
@@ -171,7 +183,17 @@ def main() -> int:
     failed = 0
     with tempfile.TemporaryDirectory() as folder:
         program = str(pathlib.Path(folder) / "serial")
-        words = [compiler, "-std=gnu11", "-O2", "-Wall", "-Wextra", "-Werror", "-I", str(TOP / "include"), str(TOP / "examples" / "serial.c")]
+        words = [
+            compiler,
+            "-std=gnu11",
+            "-O2",
+            "-Wall",
+            "-Wextra",
+            "-Werror",
+            "-I",
+            str(TOP / "include"),
+            str(TOP / "examples" / "serial.c"),
+        ]
         subprocess.run([*words, str(LIBRARY), "-o", program], check=True)
         for test in (stuffing, noise, restart):
             well = test(program)

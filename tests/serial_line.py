@@ -1,15 +1,18 @@
 #!/usr/bin/env python3
-"""The driver over a serial line (lib/serial), over a pair of pseudo terminals: `tests/serial_line.py [--library ARCHIVE]
-[--seed N] [--only NAME]`. Ends with 1 where one of these fails:
+"""The driver over a serial line (lib/serial), over a pair of pseudo terminals: `tests/serial_line.py [--library
+ARCHIVE] [--seed N] [--only NAME]`. Ends with 1 where one of these fails:
 
-- framing: datagrams of each length to 1,100 and of 8,222 octets go over the framing and back, one with a changed bit doesn't,
-  and the octets on the line are those that examples/board/bridge.py writes. With the sanitizers.
-- zlib: the same with the check of zlib (-DDT_SERIAL_ZLIB), and `clean` with it at one end. Left out where there is no zlib.h.
-- clean: 40 messages on each of 3 flows each way, over a line that takes 115,200 bits a second: all arrive, none is spoilt,
-  and the guard blocks one for a port that isn't open.
-- bad: the same over a line that changes one octet of 400, loses one of 800, and joins datagrams by losing an octet 0 now and
+- framing: datagrams of each length to 1,100 and of 8,222 octets go over the framing and back, one with a changed bit
+  doesn't, and the octets on the line are those that examples/board/bridge.py writes. With the sanitizers.
+- zlib: the same with the check of zlib (-DDT_SERIAL_ZLIB), and `clean` with it at one end. Left out where there is no
+  zlib.h.
+- clean: 40 messages on each of 3 flows each way, over a line that takes 115,200 bits a second: all arrive, none is
+  spoilt, and the guard blocks one for a port that isn't open.
+- bad: the same over a line that changes one octet of 400, loses one of 800, and joins datagrams by losing an octet 0
+  now and
   then: what arrives is right, in order and once, and no more is missing than was reported uncertain.
-- long: messages of up to 19,758 octets in datagrams of 8,222, which the line's buffer doesn't hold whole, at 921,600 bits a
+- long: messages of up to 19,758 octets in datagrams of 8,222, which the line's buffer doesn't hold whole, at 921,600
+  bits a
   second: all arrive.
 - half: the same both ways over a line that spoils whatever both ends send at a time, with a turnaround.
 - gone: a line whose other side is closed ends the driver with an event, and a path that isn't a line is refused.
@@ -51,8 +54,8 @@ BURST = 0.01
 
 @dataclass
 class Way:
-    """One way of the line: octets go on at the line's rate, some changed or lost. Half duplex: those that overlap the other
-    way's are changed."""
+    """One way of the line: octets go on at the line's rate, some changed or lost. Half duplex: those that overlap the
+    other way's are changed."""
 
     source: int
     target: int
@@ -150,14 +153,16 @@ class Made:
         if name not in self.paths:
             self.paths[name] = f"{self.folder}/{name}"
             sources = [str(ENDS / "end.c"), *map(str, sorted(SERIAL.glob("*.c"))), str(self.library)]
-            subprocess.run([self.compiler, *FLAGS, *sources, *words, "-Wl,--wrap=write", "-o", self.paths[name]], check=True)
+            subprocess.run(
+                [self.compiler, *FLAGS, *sources, *words, "-Wl,--wrap=write", "-o", self.paths[name]], check=True
+            )
         return self.paths[name]
 
 
 @dataclass(frozen=True)
 class Case:
-    """A line, and what goes over it: the programs of both ends, chances of a changed and of a lost octet, and whether it is
-    half duplex, or fast with long messages."""
+    """A line, and what goes over it: the programs of both ends, chances of a changed and of a lost octet, and whether
+    it is half duplex, or fast with long messages."""
 
     name: str
     programs: tuple[str, str]
@@ -177,8 +182,12 @@ def exchange(case: Case) -> tuple[list[End], list[Way]]:
     rate = LONG_RATE if case.is_long else RATE
     ways = [Way(wire.masters[i], wire.masters[1 - i], case.flips, case.losses, chance, rate) for i in range(2)]
     words = [str(FLOWS), str(case.messages()), "45", "8" if case.is_half else "0", *["long"] * case.is_long]
-    ends = [subprocess.Popen([case.programs[i], wire.paths[i], str(1 + i), str(2 - i), *words], stdout=subprocess.PIPE, text=True)
-            for i in range(2)]
+    ends = [
+        subprocess.Popen(
+            [case.programs[i], wire.paths[i], str(1 + i), str(2 - i), *words], stdout=subprocess.PIPE, text=True
+        )
+        for i in range(2)
+    ]
     begun = time.monotonic()
     for it in ways:
         it.at = begun
@@ -193,16 +202,22 @@ def exchange(case: Case) -> tuple[list[End], list[Way]]:
 
 
 def is_sound(case: Case, at: int, end: End, other: End) -> bool:
-    """Whether what an end got of the other is right: in order, once, and each that is missing has an octet that its sender
-    reported uncertain, has under way, or didn't send."""
+    """Whether what an end got of the other is right: in order, once, and each that is missing has an octet that its
+    sender reported uncertain, has under way, or didn't send."""
     good = end.status == 0 and end.wrong == 0 and bool(end.counts) and bool(other.counts)
     for port in range(10, 10 + FLOWS) if good else ():
         got = end.got.get(port, [])
         unsent, under_way = FLOWS * case.messages() - other.counts[0], other.counts[6]
-        good = good and got == sorted(set(got)) and case.messages() - len(got) <= other.uncertain.get(port, 0) + under_way + unsent
+        good = (
+            good
+            and got == sorted(set(got))
+            and case.messages() - len(got) <= other.uncertain.get(port, 0) + under_way + unsent
+        )
     uncertain = sum(other.uncertain.values())
-    print(f"{case.name} {at}: got {sum(map(len, end.got.values()))} of {other.counts[0] if other.counts else '?'}, {uncertain} octets "
-          f"uncertain, counts {end.counts}{'' if good else ': WRONG'}")
+    print(
+        f"{case.name} {at}: got {sum(map(len, end.got.values()))} of {other.counts[0] if other.counts else '?'},"
+        f" {uncertain} octets uncertain, counts {end.counts}{'' if good else ': WRONG'}"
+    )
     return good
 
 
@@ -213,7 +228,9 @@ def run(case: Case) -> tuple[bool, list[End], list[Way]]:
 
 def framing(folder: str, compiler: str, words: list[str]) -> bool:
     path = f"{folder}/framing"
-    subprocess.run([compiler, *FLAGS, str(ENDS / "framing.c"), str(SERIAL / "framing.c"), *words, "-o", path], check=True)
+    subprocess.run(
+        [compiler, *FLAGS, str(ENDS / "framing.c"), str(SERIAL / "framing.c"), *words, "-o", path], check=True
+    )
     good, chance = subprocess.run([path], check=False).returncode == 0, random.Random(1)
     for count in (1, 30, 250, 254, 255, 300, 600):
         for octets in (bytes(count), bytes(1 + it % 255 for it in range(count)), chance.randbytes(count)):
@@ -228,16 +245,23 @@ def framing(folder: str, compiler: str, words: list[str]) -> bool:
 def all_arrive(case: Case) -> bool:
     """Whether all arrives, and none spoilt; the guard blocked what was for a port that isn't open."""
     good, ends, _ = run(case)
-    return good and all(sum(map(len, it.got.values())) == FLOWS * case.messages() and it.counts[3] == 0 and it.counts[5] > 0 for it in ends)
+    return good and all(
+        sum(map(len, it.got.values())) == FLOWS * case.messages() and it.counts[3] == 0 and it.counts[5] > 0
+        for it in ends
+    )
 
 
 def with_zlib(made: Made, seed: int) -> bool:
-    found = subprocess.run([made.compiler, "-E", "-"], input="#include <zlib.h>\n", capture_output=True, text=True, check=False)
+    found = subprocess.run(
+        [made.compiler, "-E", "-"], input="#include <zlib.h>\n", capture_output=True, text=True, check=False
+    )
     if found.returncode:
         print("zlib: there is no zlib.h: apt-get install zlib1g-dev")
         return True
     words = ["-DDT_SERIAL_ZLIB", "-lz"]
-    return framing(made.folder, made.compiler, words) and all_arrive(Case("zlib", (made.end("zlib", words), made.end("end", [])), seed))
+    return framing(made.folder, made.compiler, words) and all_arrive(
+        Case("zlib", (made.end("zlib", words), made.end("end", [])), seed)
+    )
 
 
 def bad(program: str, seed: int) -> bool:
@@ -257,14 +281,22 @@ def gone(program: str) -> bool:
     time.sleep(0.5)
     wire.close()
     text = end.communicate(timeout=30)[0]
-    refused = subprocess.run([program, "/dev/null", "1", "2", "1", "1", "5", "0"], capture_output=True, text=True, check=False)
+    refused = subprocess.run(
+        [program, "/dev/null", "1", "2", "1", "1", "5", "0"], capture_output=True, text=True, check=False
+    )
     print(f"gone: {text.strip().splitlines()[-1:]}, {end.returncode}; {refused.stderr.strip()}, {refused.returncode}")
     return end.returncode == 3 and "failed" in text and refused.returncode == 1 and "/dev/null" in refused.stderr
 
 
 def main() -> int:
     reads = argparse.ArgumentParser(description=__doc__, formatter_class=argparse.RawDescriptionHelpFormatter)
-    reads.add_argument("--library", type=pathlib.Path, default=TOP / "lib" / "libdeltat.a", metavar="ARCHIVE", help="the archive (%(default)s)")
+    reads.add_argument(
+        "--library",
+        type=pathlib.Path,
+        default=TOP / "lib" / "libdeltat.a",
+        metavar="ARCHIVE",
+        help="the archive (%(default)s)",
+    )
     reads.add_argument("--seed", type=int, default=1)
     reads.add_argument("--only", action="append", metavar="NAME", help="run this test only; may be given again")
     given = reads.parse_args()

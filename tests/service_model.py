@@ -1,6 +1,6 @@
 """Calls between nodes that see nobody's ledger but their own: the definitions of a caller and a service over a station,
-as plainly as they can be written. `tests/service.py` holds the theorems against them, and they judge whatever makes such
-calls.
+as plainly as they can be written. `tests/service.py` holds the theorems against them, and they judge whatever makes
+such calls.
 
 A `Node` has the two halves, caller and service, over a `Station`, which is whatever sends, reads and tells what it did:
 that of the library in simulated time, a script of reports, or an adversary. Moments are milliseconds. What is asked is
@@ -8,8 +8,8 @@ answered by a tuple that begins with a word, and what a turn tells is a list of 
 
     ("made", number)    ("declined", "numbers" | "many" | "quiet" | "full"[, until or free])    ("refused",)
     ("done",)    ("gone",)    ("full", free)
-    ("request", Token, payload)    ("answered", number, payload)    ("unsure", number, "given up" | "patience" | "closed")
-    ("doubtful", Flow), of a reply that was given up: the flow of its request
+    ("request", Token, payload)    ("answered", number, payload)    ("unsure", number, "given up" | "patience" |
+    "closed") ("doubtful", Flow), of a reply that was given up: the flow of its request
 
 `judged(node, events)` is the judge: the list of what each event of a list told.
 
@@ -46,8 +46,8 @@ class Token(NamedTuple):
 
 
 class Report(NamedTuple):
-    """What a station told: `took`, `settled`, `uncertain` and `accepted` octets of a flow, or that its receive record was
-    `released`. Other words say nothing here."""
+    """What a station told: `took`, `settled`, `uncertain` and `accepted` octets of a flow, or that its receive record
+    was `released`. Other words say nothing here."""
 
     word: str
     flow: Flow
@@ -85,8 +85,8 @@ class Station(Protocol):
 
 @dataclass(frozen=True)
 class Limits:
-    """How many calls may wait or have ends that nobody took; how many requests may be open, and how many untaken; and how
-    many of one flow may be open."""
+    """How many calls may wait or have ends that nobody took; how many requests may be open, and how many untaken; and
+    how many of one flow may be open."""
 
     most_waiting: int = 1_000
     most_open: int = 1_000
@@ -265,8 +265,8 @@ class Node:
         return doubted
 
     def _doubt_reply(self, flow: Flow) -> None:
-        """Octets of a flow were given up. Where they are replies, the flow of their requests is told, and not again before
-        that was taken."""
+        """Octets of a flow were given up. Where they are replies, the flow of their requests is told, and not again
+        before that was taken."""
         told = ("doubtful", flow.reversed())
         if self.kinds.get(flow.source_port) == SERVICE and told not in self.queue:
             self._tell(told)
@@ -360,9 +360,9 @@ class Node:
 def judged(node: Node, events: Iterable[Sequence[object]], keeps: bool = False) -> list[list[Told]]:
     """What each event told: the status of what was asked, where it has one, and then the requests and ends of its turn,
     in order. An event is the name of a method of `Node` and its words: ("call", at, flow, payload, patience),
-    ("reply", at, token, payload), ("forget", at, token), ("raise_life", life), ("port", port, kind), ("arrive", at, came),
-    ("tick", at), ("close", at), ("take",). What was told is taken behind each event, but where `keeps` leaves that to
-    the events."""
+    ("reply", at, token, payload), ("forget", at, token), ("raise_life", life), ("port", port, kind), ("arrive", at,
+    came), ("tick", at), ("close", at), ("take",). What was told is taken behind each event, but where `keeps` leaves
+    that to the events."""
     log = []
     for name, *words in events:
         status = getattr(node, name)(*words)

@@ -1,13 +1,14 @@
 """Eleven worked runs of calls between two nodes, each row with all that it tells. `tests/services.py` holds them.
 
-The client is node 1 with the life 5, the server node 2 with the life 1; F is the flow 1:10>2:20, and R its way back. The
-parameters are mpl 1000, r 3000, a 200, rto 500 and probe 800, segments of 100 octets and rooms and windows of 4,096,
-where a run says nothing else.
+The client is node 1 with the life 5, the server node 2 with the life 1; F is the flow 1:10>2:20, and R its way back.
+The parameters are mpl 1000, r 3000, a 200, rto 500 and probe 800, segments of 100 octets and rooms and windows of
+4,096, where a run says nothing else.
 
 A row has the moment, the event, what it tells, the calls that wait behind it, and the requests that are open. What it
 tells is the status of what was asked, then what the station of the node tells of octets (sent, resent, settled,
-uncertain, accepted: flow, number and octets, marks), the requests that are handed out and the ends, and what was counted.
-`comes` hands over the last frame that left with what is told, and lets the node tick before where that was due earlier.
+uncertain, accepted: flow, number and octets, marks), the requests that are handed out and the ends, and what was
+counted. `comes` hands over the last frame that left with what is told, and lets the node tick before where that was due
+earlier.
 
 In tests/all: not a test."""
 from collections import Counter, defaultdict
@@ -232,7 +233,9 @@ class Script:
             flow = F if name == "F" else F.reversed()
             if word == "sent":
                 octets, self.pending = self.pending[: int(rest[1])], self.pending[int(rest[1]) :]
-                self.segments[name, rest[0]] = Piece(b"".join(it[0] for it in octets), octets[0][1], octets[-1][2], False)
+                self.segments[name, rest[0]] = Piece(
+                    b"".join(it[0] for it in octets), octets[0][1], octets[-1][2], False
+                )
             elif word == "accepted":
                 self.rows[flow].append(self.segments[name, rest[0]]._replace(run=rest[2] == "run"))
                 self.told.append(Report("accepted", flow, int(rest[1])))
@@ -331,7 +334,11 @@ class Stage:
         told = self.told(row)
         waits = ", ".join(map(call_name, self.nodes[CLIENT].waiting)) or "-"
         opened = ", ".join(sorted(call_name(it.number) for it in self.nodes[SERVER].open)) or "-"
-        return None if (told, waits, opened) == (row.told, row.waits, row.open) else f"{'; '.join(told)} | {waits} | {opened}"
+        return (
+            None
+            if (told, waits, opened) == (row.told, row.waits, row.open)
+            else f"{'; '.join(told)} | {waits} | {opened}"
+        )
 
 
 def rows(make: Callable[[dict[str, int]], Ground], over: str) -> bool:
@@ -341,7 +348,10 @@ def rows(make: Callable[[dict[str, int]], Ground], over: str) -> bool:
         for row in run.rows:
             fault = stage.fault(row)
             if fault is not None:
-                print(f"{over}, {run.name}: at {row.at} {row.event}: {'; '.join(row.told)} | {row.waits} | {row.open}, but it is {fault}")
+                print(
+                    f"{over}, {run.name}: at {row.at} {row.event}: {'; '.join(row.told)} | {row.waits} | {row.open},"
+                    f" but it is {fault}"
+                )
                 right = False
                 break
     print(f"{len(RUNS)} worked runs over {over}: {'as they are written' if right else 'FAILED'}", flush=True)

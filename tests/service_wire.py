@@ -1,10 +1,10 @@
 """An adversary that does whatever a safe wire may do to calls between nodes, and what is checked behind each turn.
 
 It gives any next octets, passes over what was given up or is of a former life, puts run marks at will, acknowledges and
-gives up at will, also what it gives later. There are up to five flows between four nodes, of which one calls and serves;
-small limits, quiet and full senders, lives counted, drawn and raised, nodes that start again or close, and workers that
-reply in any order, twice, and with tokens of former lives. What nobody sees, the places of all octets, is kept here, and
-by it the `Referee` holds every theorem.
+gives up at will, also what it gives later. There are up to five flows between four nodes, of which one calls and
+serves; small limits, quiet and full senders, lives counted, drawn and raised, nodes that start again or close, and
+workers that reply in any order, twice, and with tokens of former lives. What nobody sees, the places of all octets, is
+kept here, and by it the `Referee` holds every theorem.
 
 In tests/all: not a test."""
 import bisect
@@ -214,7 +214,9 @@ class Referee:
         call = host.waits.get(number)
         holds(call is not None, "ends once: a call that doesn't wait is answered")
         holds(ghost.call is call, "its own answer: that of another call")
-        holds((call.handed, call.replies) == (1, [answer]), "its own answer: one request, and one reply that carried it")
+        holds(
+            (call.handed, call.replies) == (1, [answer]), "its own answer: one request, and one reply that carried it"
+        )
         self.ended(host, number, ("answered", answer))
 
     def ended(self, host: "Host", number: int, end: tuple[object, ...]) -> None:
@@ -240,7 +242,10 @@ class Referee:
         given_up, station.doubts = station.doubts, []
         doubts = {it.call for it in given_up if it.call.request is it}
         lost = {it.call.flow for it in given_up if it.call.request is not it}
-        holds(is_closed or all(node.queue.count(("doubtful", it)) == 1 for it in lost), "doubtful exactly: a reply was given up")
+        holds(
+            is_closed or all(node.queue.count(("doubtful", it)) == 1 for it in lost),
+            "doubtful exactly: a reply was given up",
+        )
         requests = [it for it in wholes if node.kinds[it.flow.target_port] == SERVICE]
         replies = [it for it in wholes if node.kinds[it.flow.target_port] == CALLER]
         answers = {it.call for it in replies if it.call.number in host.waits and host.waits[it.call.number] is it.call}
@@ -253,7 +258,10 @@ class Referee:
                 self.handed_out(host, words[0], words[1], requests.pop(0))
                 self.totals["handed out"] += 1
             elif what == "doubtful":
-                holds(words[0] in lost and node.queue.count(("doubtful", words[0])) == 1, "doubtful exactly: no reply was given up, or it is told twice")
+                holds(
+                    words[0] in lost and node.queue.count(("doubtful", words[0])) == 1,
+                    "doubtful exactly: no reply was given up, or it is told twice",
+                )
                 self.totals["doubtful"] += 1
             elif what == "answered":
                 holds((words[0], words[1]) in came, "its own answer: no such reply came whole")
@@ -270,7 +278,10 @@ class Referee:
         waits = host.waits
         holds(node.waiting.keys() == waits.keys(), "ends once: who waits")
         holds(all(it.deadline > node.now for it in waits.values()), "ends once: a deadline has passed")
-        holds(not any(it in doubts or it in answers for it in waits.values()), "unsure exactly: one waits that has a cause")
+        holds(
+            not any(it in doubts or it in answers for it in waits.values()),
+            "unsure exactly: one waits that has a cause",
+        )
         if node.counts["reused"] > host.reused:
             host.reused = node.counts["reused"]
             host.open = {it: host.open[it] for it in node.open}
@@ -286,7 +297,9 @@ class Referee:
                 holds(node.kinds[flow.target_port] == SERVICE and not has_room, "at rest")
         for flow, posted in node.posted.items():
             track = self.wire.tracks[flow]
-            is_right = sum(it.left for it in posted) == len(track.octets) - track.front and all(it.left for it in posted)
+            is_right = sum(it.left for it in posted) == len(track.octets) - track.front and all(
+                it.left for it in posted
+            )
             holds(is_right, "unsure exactly: posted is what is held")
         holds(all(it in station.records or station.rows[it] for it in node.begun), "bounded: begun without a receiver")
 
@@ -341,7 +354,11 @@ class Run:
         if self.has_lives_twice:
             return self.chance.choice([1, 1, 2])
         while True:
-            life = self.chance.choice([self.chance.randrange(1 << 32), 0xFFFF_FFFF, 0]) if self.is_drawn else next(self.lives[me])
+            life = (
+                self.chance.choice([self.chance.randrange(1 << 32), 0xFFFF_FFFF, 0])
+                if self.is_drawn
+                else next(self.lives[me])
+            )
             if (me, life) not in self.used:
                 self.used.add((me, life))
                 return life
@@ -359,7 +376,9 @@ class Run:
         if first >= len(track.octets):
             return []
         ghost = track.ghost_at(first)
-        behind = ghost.behind if chance.random() < 0.5 else chance.randint(first + 1, min(len(track.octets), first + 30))
+        behind = (
+            ghost.behind if chance.random() < 0.5 else chance.randint(first + 1, min(len(track.octets), first + 30))
+        )
         run = station.last.get(flow) != first or chance.random() < 0.05
         return [("give", flow, first, behind, run)]
 
@@ -421,7 +440,11 @@ class Run:
         host, chance = self.hosts[flow.source], self.chance
         node, track = host.node, self.wire.tracks[flow]
         payload = b"%d" % next(self.words) + bytes(chance.choice([0, 0, 3, 12]))
-        patience = chance.choice([0, 1, 60, 5000, 50_000, 50_000, 50_000, (1 << 32) - 1]) if chance.random() < 0.98 else 1 << 32
+        patience = (
+            chance.choice([0, 1, 60, 5000, 50_000, 50_000, 50_000, (1 << 32) - 1])
+            if chance.random() < 0.98
+            else 1 << 32
+        )
         before = len(track.octets)
         # the referee has to know it before its turn ends
         call = GhostCall(flow, self.model.number_of(host.life, host.number), payload, max(self.at, node.now) + patience)
@@ -473,7 +496,10 @@ class Run:
         del host.station.send
         holds(status[0] != "quiet", "one reply a token: quiet")
         is_refused = 8 + len(payload) > self.cap
-        holds((status[0] == "gone") == (is_open is None and not is_refused), "one reply a token: gone exactly where it isn't open")
+        holds(
+            (status[0] == "gone") == (is_open is None and not is_refused),
+            "one reply a token: gone exactly where it isn't open",
+        )
         holds((status[0] == "refused") == is_refused, "a reply is refused exactly where it is longer than the room")
         self.referee.totals[f"reply {status[0]}"] += 1
         if status[0] in ("done", "full"):

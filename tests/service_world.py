@@ -1,5 +1,5 @@
-"""Calls between nodes in simulated time: the definitions over stations of the plain model or of the library, worked runs,
-and random runs in which another maker of calls is judged by the definitions.
+"""Calls between nodes in simulated time: the definitions over stations of the plain model or of the library, worked
+runs, and random runs in which another maker of calls is judged by the definitions.
 
 In tests/all: not a test."""
 import dataclasses
@@ -16,6 +16,7 @@ from collections import Counter, defaultdict
 import service_model
 import station_model
 from lib import TOP
+from lib.parameters import WORKED
 from service_model import CALLER, SERVICE, Flow, Limits, Piece, Report, Token
 from service_rows import FLOW_NAMES, STATION_WORDS, Row
 from service_wire import Broken, holds
@@ -92,7 +93,10 @@ class LibraryStation:
         """What left since this was asked last, to be handed over: beside each what was told as it was made."""
         told, self.all = self.all, []
         makers = [before for before, it in zip(told, told[1:]) if word_of(it) == "put"]
-        return [(made(word_of(it), it), (1, frame.octets, 0)) for it, frame in zip(makers, self.node.datagrams(), strict=True)]
+        return [
+            (made(word_of(it), it), (1, frame.octets, 0))
+            for it, frame in zip(makers, self.node.datagrams(), strict=True)
+        ]
 
 
 class PlainStation(station_model.Station):
@@ -113,7 +117,11 @@ def row_line(word: str, it: object) -> str:
     """What a station told of octets, as a row has it."""
     name = FLOW_NAMES.get(Flow(*it.flow), "?")
     marks = ("d" if it.run else "") + ("b" if it.begin else "") + ("e" if it.end else "")
-    rest = {"accepted": [it.number, it.count, "run" if it.run else "on"], "settled": [it.count, it.window], "uncertain": [it.count]}
+    rest = {
+        "accepted": [it.number, it.count, "run" if it.run else "on"],
+        "settled": [it.count, it.window],
+        "uncertain": [it.count],
+    }
     return " ".join(str(part) for part in [word, name, *rest.get(word, [it.number, it.count, marks])])
 
 
@@ -128,14 +136,16 @@ class Simulated:
     and the last acknowledgement of each flow."""
 
     def __init__(self, params: dict[str, int], deltat: types.ModuleType | None) -> None:
-        self.params, self.deltat = station_model.Params(**params), deltat
+        self.params, self.deltat = dataclasses.replace(WORKED, **params), deltat
         self.frames: dict[tuple[str, ...], object] = {}
         self.stations: list[PlainStation | LibraryStation] = []
 
     def station(self, me: int, at: int, is_again: bool) -> PlainStation | LibraryStation:
         if self.deltat:
             params = self.deltat.Params(**dataclasses.asdict(self.params))
-            node = self.deltat.Node(me, params, [self.deltat.Link(1, CHARGE)], {3 - me: 1}, start=start_of(self.deltat, is_again), at=at)
+            node = self.deltat.Node(
+                me, params, [self.deltat.Link(1, CHARGE)], {3 - me: 1}, start=start_of(self.deltat, is_again), at=at
+            )
             self.stations.append(LibraryStation(self.deltat, node))
         else:
             self.stations.append(PlainStation(me, self.params, at, is_again))
@@ -146,7 +156,14 @@ class Simulated:
         for station in self.stations:
             self.frames |= dict(station.left())
         while True:
-            due = min(((node.wake, it) for it, node in nodes.items() if node.wake is not None and node.wake <= at - (it == me)), default=None)
+            due = min(
+                (
+                    (node.wake, it)
+                    for it, node in nodes.items()
+                    if node.wake is not None and node.wake <= at - (it == me)
+                ),
+                default=None,
+            )
             if due is None:
                 return
             nodes[due[1]].tick(due[0])
@@ -164,8 +181,15 @@ class Half:
     # the words of the definitions, by the names of the binding
     DECLINED = {"QUIET": "quiet", "FULL": "full", "TOO_MANY_CALLS": "many", "LIFE_USED_UP": "numbers"}
     CAUSES = {"GIVEN_UP": "given up", "TIMEOUT": "patience", "STOPPED": "closed"}
-    COUNTS = {"late_replies": "late", "old_replies": "old", "unknown_replies": "strange", "reused_requests": "reused", "cut": "cut", "too_long": "long",
-              "too_short": "short"}
+    COUNTS = {
+        "late_replies": "late",
+        "old_replies": "old",
+        "unknown_replies": "strange",
+        "reused_requests": "reused",
+        "cut": "cut",
+        "too_long": "long",
+        "too_short": "short",
+    }
 
     def __init__(self, deltat: types.ModuleType, node: object) -> None:
         self.deltat, self.node = deltat, node
@@ -250,7 +274,9 @@ class Alone:
 
     def __init__(self, run: "World", me: int, is_again: bool) -> None:
         self.life = next(run.lives[me])
-        self.model = service_model.Node(me, self.life, PlainStation(me, run.params, run.at, is_again), run.limits, run.at)
+        self.model = service_model.Node(
+            me, self.life, PlainStation(me, run.params, run.at, is_again), run.limits, run.at
+        )
         for port, kind in PORTS:
             self.model.port(port, kind)
 
@@ -284,7 +310,9 @@ class Pair(Alone):
         plain = deltat.Node(me, params, links, routes, start=start, at=run.at)
         self.model = service_model.Node(me, self.life, LibraryStation(deltat, plain), run.limits, run.at)
         limits = deltat.ServiceLimits(run.limits.most_waiting, run.limits.most_open, run.limits.most_each)
-        self.other = Half(deltat, deltat.Service(me, self.life, params, links, routes, start=start, at=run.at, limits=limits))
+        self.other = Half(
+            deltat, deltat.Service(me, self.life, params, links, routes, start=start, at=run.at, limits=limits)
+        )
         for port, kind in PORTS:
             self.model.port(port, kind)
             self.other.port(port, kind)
@@ -316,14 +344,25 @@ class Pair(Alone):
 
 
 class World:
-    """A random run of three nodes over links that drop, repeat and reorder: of the library, or plain ones where there is
-    none. The theorems are checked by the names of calls."""
+    """A random run of three nodes over links that drop, repeat and reorder: of the library, or plain ones where there
+    is none. The theorems are checked by the names of calls."""
 
     def __init__(self, seed: int, deltat: types.ModuleType | None) -> None:
         self.chance, self.deltat = random.Random(seed), deltat
         self.make, chance = Pair if deltat else Alone, self.chance
         seg, room = chance.choice([10, 100]), chance.choice([40, 400])
-        self.params = station_model.Params(mpl=100, r=chance.choice([60, 300]), a=20, rto=50, probe=80, seg=seg, cap=room, rcap=400, window=chance.choice([25, 400]))
+        self.params = dataclasses.replace(
+            WORKED,
+            mpl=100,
+            r=chance.choice([60, 300]),
+            a=20,
+            rto=50,
+            probe=80,
+            seg=seg,
+            cap=room,
+            rcap=400,
+            window=chance.choice([25, 400]),
+        )
         self.limits = Limits(*([chance.randint(1, 4) for _ in range(3)] if chance.random() < 0.3 else [50] * 3))
         self.loss = chance.choice([0.0, 0.1, 0.4])
         self.at, self.count, self.words = 0, itertools.count(), itertools.count()
@@ -405,7 +444,14 @@ class World:
         to = min(wakes) if wakes and self.chance.random() < 0.7 else self.at + self.chance.choice([1, 10, 300])
         self.at = max(self.at, min([to, *(it[0] for it in self.links[:1])]))
         me = self.chance.choice((1, 2, 3))
-        for me in (me, *(it for it in self.pairs if it != me and self.pairs[it].model.wake is not None and self.pairs[it].model.wake <= self.at)):
+        for me in (
+            me,
+            *(
+                it
+                for it in self.pairs
+                if it != me and self.pairs[it].model.wake is not None and self.pairs[it].model.wake <= self.at
+            ),
+        ):
             self.pairs[me].asked("tick", self.at)
             self.after(me)
 
@@ -466,6 +512,20 @@ def world(count: int, first: int, deltat: types.ModuleType | None) -> bool:
             return False
         totals += run.totals
     agrees = ", and its services tell the same" if deltat else ""
-    print(f"{count} runs over {over} hold{agrees}: " + ", ".join(f"{name} {it}" for name, it in sorted(totals.items())), flush=True)
-    wanted = ("answered", "given up", "doubtful", "patience", "closed", "reply gone", "reply full", "old", "late", "cut")
+    print(
+        f"{count} runs over {over} hold{agrees}: " + ", ".join(f"{name} {it}" for name, it in sorted(totals.items())),
+        flush=True,
+    )
+    wanted = (
+        "answered",
+        "given up",
+        "doubtful",
+        "patience",
+        "closed",
+        "reply gone",
+        "reply full",
+        "old",
+        "late",
+        "cut",
+    )
     return totals["strange"] + totals["reused"] == 0 and all(totals[it] for it in wanted)

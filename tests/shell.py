@@ -41,8 +41,14 @@ def ends() -> tuple[str, str]:
 
 def start(*words: str, given: bytes | None = None) -> "subprocess.Popen[bytes]":
     # a listener is stopped by an interrupt, which a shell in the background has its children ignore
-    it = subprocess.Popen([sys.executable, *words], stdin=subprocess.PIPE, stdout=subprocess.PIPE, stderr=subprocess.PIPE, env={**os.environ, **places},
-                          preexec_fn=lambda: signal.signal(signal.SIGINT, signal.SIG_DFL))
+    it = subprocess.Popen(
+        [sys.executable, *words],
+        stdin=subprocess.PIPE,
+        stdout=subprocess.PIPE,
+        stderr=subprocess.PIPE,
+        env={**os.environ, **places},
+        preexec_fn=lambda: signal.signal(signal.SIGINT, signal.SIG_DFL),
+    )
     if given is not None:
         it.stdin.write(given)
         it.stdin.close()
@@ -73,15 +79,27 @@ def lines() -> bool:
     told = int(re.match(r"dtcat.py: (\d+) of", said)[1]) if status == 1 else 0
     numbers = [sent.index(it) for it in came]
     print(f"lines: {len(came)} of 2000 came, {told} octets uncertain")
-    return numbers == sorted(set(numbers)) and (status, missing) == (0, 0) or status == 1 and numbers == sorted(set(numbers)) and 0 <= missing <= told
+    return (
+        numbers == sorted(set(numbers))
+        and (status, missing) == (0, 0)
+        or status == 1
+        and numbers == sorted(set(numbers))
+        and 0 <= missing <= told
+    )
 
 
 def both() -> bool:
     one, two = ends()
     texts = ["".join(f"{who} {it}\n" for it in range(500)) for who in (1, 2)]
-    found = [start(CAT, one, two, "--linger", "1.5", given=texts[0].encode()), start(CAT, two, one, "--linger", "1.5", given=texts[1].encode())]
+    found = [
+        start(CAT, one, two, "--linger", "1.5", given=texts[0].encode()),
+        start(CAT, two, one, "--linger", "1.5", given=texts[1].encode()),
+    ]
     told = [ended(it) for it in found]
-    right = all(set(out.splitlines()) <= set(text.splitlines()) and (status or out) for (status, out, _), text in zip(told, reversed(texts)))
+    right = all(
+        set(out.splitlines()) <= set(text.splitlines()) and (status or out)
+        for (status, out, _), text in zip(told, reversed(texts))
+    )
     one, two = ends()
     listener = start(CAT, two, one, "--listen", "--whole")
     time.sleep(0.5)
@@ -101,7 +119,12 @@ def ping() -> bool:
     lost, told, _ = ended(start(PING, alone, nobody, "--count", "1", "--delay", "5"))
     last = said.splitlines()[-1] if said else ""
     print(f"ping: {last}")
-    return status == 0 and re.match(r"10 messages, 0 uncertain, \d+ resent, [\d. ]+ ms$", last) is not None and lost == 1 and "1: 56 octets, uncertain" in told
+    return (
+        status == 0
+        and re.match(r"10 messages, 0 uncertain, \d+ resent, [\d. ]+ ms$", last) is not None
+        and lost == 1
+        and "1: 56 octets, uncertain" in told
+    )
 
 
 def is_run_again(path: str) -> bool:
@@ -120,7 +143,10 @@ def recorded() -> bool:
         one, two = ends()
         records = [f"{folder}/{it}" for it in ("one", "two", "ping", "listens")]
         texts = ["".join(f"{who} {it}\n" for it in range(300)).encode() for who in (1, 2)]
-        found = [start(CAT, one, two, "--linger", "1", "--record", records[0], given=texts[0]), start(CAT, two, one, "--linger", "1", "--record", records[1], given=texts[1])]
+        found = [
+            start(CAT, one, two, "--linger", "1", "--record", records[0], given=texts[0]),
+            start(CAT, two, one, "--linger", "1", "--record", records[1], given=texts[1]),
+        ]
         statuses = [ended(it)[0] for it in found]
         one, two = ends()
         listener = start(CAT, two, one, "--listen", "--record", records[3])
@@ -145,7 +171,10 @@ def states() -> bool:
     while not is_up(int(two.split(":")[1])) and time.monotonic() < until:
         time.sleep(0.05)
     status, _, said = ended(start(CAT, two, one, given=b"x"))
-    tell("a second node 2", status == 2 and f"in use by process {listener.pid};" in said and f"{places['XDG_STATE_HOME']}/deltat/2" in said)
+    tell(
+        "a second node 2",
+        status == 2 and f"in use by process {listener.pid};" in said and f"{places['XDG_STATE_HOME']}/deltat/2" in said,
+    )
     folder = os.path.join(HOME.name, "named")
     status, _, said = ended(start(PING, one, two, "--count", "1", "--state", folder))
     tell("a folder that is named", status < 2 and sorted(os.listdir(folder)) == ["last", "lock", "state"])
@@ -154,7 +183,9 @@ def states() -> bool:
     status, _, said = ended(start(PING, one, two, "--count", "1", "--state", "/proc/nowhere"))
     tell("no folder", status == 2 and "/proc" in said)
     begun = time.monotonic()
-    status, out, said = ended(start(PING, one, two, "--count", "1", "--state", folder, "--again", "--round-trip", "400"))
+    status, out, said = ended(
+        start(PING, one, two, "--count", "1", "--state", folder, "--again", "--round-trip", "400")
+    )
     tell("other delays", "is silent for" in said and time.monotonic() - begun > 1 and "1 messages" in out)
     stopped(listener)
     tell("--help", "~/.local/state/deltat/NODE" in " ".join(ended(start(CAT, "--help"))[1].split()))
@@ -171,7 +202,13 @@ def refused() -> bool:
             if (status, out) != (2, "") or not said:
                 print(f"refused: {words[1:]} gave {status} {said!r}")
                 right = False
-    none = subprocess.run([sys.executable, CAT, one, two], capture_output=True, text=True, stdin=subprocess.DEVNULL, env={**os.environ, "DELTAT_LIBRARY": "/nowhere"})
+    none = subprocess.run(
+        [sys.executable, CAT, one, two],
+        capture_output=True,
+        text=True,
+        stdin=subprocess.DEVNULL,
+        env={**os.environ, "DELTAT_LIBRARY": "/nowhere"},
+    )
     return right and none.returncode == 2 and "make -C lib" in none.stderr
 
 

@@ -1,21 +1,21 @@
 #!/usr/bin/env python3
-"""Five nodes in a ring for a long time, and calls through it: relays, losses, repeats, late packets, kills and starts, outside
-the gate.
+"""Five nodes in a ring for a long time, and calls through it: relays, losses, repeats, late packets, kills and starts,
+outside the gate.
 
-`tests/soak.py MINUTES [PROGRAM] [--seed N] [--keep FOLDER] [--first] [--spoil HOW]`. Each node has a link to either neighbour
-and sends to all four others, so half of what it sends is relayed. Links are sockets of this process: it drops a tenth of
-the datagrams, passes one of seven twice, and holds some up, but none for longer than the links' charges say. Nodes
-end, or are killed, after 3 to 25 seconds, and are started `again`; one a round, drawn by chance, runs on to its end. A
-node is killed where its log has all that it sent: of a turn that is broken off no log could be judged. A round takes 5
-minutes at most; the next one begins when nothing of it can be left. Scripts know their moments before they start, so
-messages go and are read at moments that are drawn.
+`tests/soak.py MINUTES [PROGRAM] [--seed N] [--keep FOLDER] [--first] [--spoil HOW]`. Each node has a link to either
+neighbour and sends to all four others, so half of what it sends is relayed. Links are sockets of this process: it drops
+a tenth of the datagrams, passes one of seven twice, and holds some up, but none for longer than the links' charges say.
+Nodes end, or are killed, after 3 to 25 seconds, and are started `again`; one a round, drawn by chance, runs on to its
+end. A node is killed where its log has all that it sent: of a turn that is broken off no log could be judged. A round
+takes 5 minutes at most; the next one begins when nothing of it can be left. Scripts know their moments before they
+start, so messages go and are read at moments that are drawn.
 
-A service and two clients over the library (tests/soak_calls.py) have a link to a node of the ring each, so two of the ring
-relay each of their packets, over three of the links. A client has four calls under way on two flows, each of another number,
-which the service writes down before it replies. Clients are killed after 4 to 20 seconds, the service after 8 to 25, and
-started `again` in a new life; in half of the rounds of two minutes or more the service runs on. They write no log, so flows
-of calls are judged by what both sides wrote down. Where `make -C lib` hasn't made the library the round goes without calls,
-which is said.
+A service and two clients over the library (tests/soak_calls.py) have a link to a node of the ring each, so two of the
+ring relay each of their packets, over three of the links. A client has four calls under way on two flows, each of
+another number, which the service writes down before it replies. Clients are killed after 4 to 20 seconds, the service
+after 8 to 25, and started `again` in a new life; in half of the rounds of two minutes or more the service runs on. They
+write no log, so flows of calls are judged by what both sides wrote down. Where `make -C lib` hasn't made the library
+the round goes without calls, which is said.
 
 It ends with 1 where, in a round,
 
@@ -23,19 +23,20 @@ It ends with 1 where, in a round,
 - a message is read twice, by whatever lives of its receiver, or isn't one that was sent on its flow, octet for octet;
 - a node ends otherwise than by its stop or by a kill;
 - the node that runs on has grown by more than 1 MiB since its first third, or the service has where it runs on;
-- a call is served twice, by whatever lives of the service, or was made by nobody; the calls of a flow aren't served in the
-  order in which they were made; an answer isn't what the service gave for that very call; a call that was declined is
-  served; a call ends twice, or has no end though its client wasn't killed while it waited;
-- too little happened: no kill, no loss, no repeat, nothing relayed, or less than half of the messages read; or, in a round of
-  30 seconds or more, no client killed, no service where it doesn't run on, or less than half of the calls answered that
-  weren't declined. Halves aren't asked of a round in which this process itself held more than a tenth of the datagrams too
-  long, since the machine was busy: those are dropped, as the links' charges say, and the round's line says so.
+- a call is served twice, by whatever lives of the service, or was made by nobody; the calls of a flow aren't served in
+  the order in which they were made; an answer isn't what the service gave for that very call; a call that was declined
+  is served; a call ends twice, or has no end though its client wasn't killed while it waited;
+- too little happened: no kill, no loss, no repeat, nothing relayed, or less than half of the messages read; or, in a
+  round of 30 seconds or more, no client killed, no service where it doesn't run on, or less than half of the calls
+  answered that weren't declined. Halves aren't asked of a round in which this process itself held more than a tenth of
+  the datagrams too long, since the machine was busy: those are dropped, as the links' charges say, and the round's line
+  says so.
 
-With --first the nodes of the ring are started as `first` each time, and with `--spoil first` those of calls, in the same life
-too, which breaks a premise of the promise; with `--spoil twice` the service serves some calls twice. Each then ends with 1
-within a minute or two, and so shows that these checks see what is broken; of calls they are tried on written lines too
-before the first round. Logs and what was written down are kept in FOLDER, or where something failed in a new folder, which
-is named. Two lines a round tell what happened.
+With --first the nodes of the ring are started as `first` each time, and with `--spoil first` those of calls, in the
+same life too, which breaks a premise of the promise; with `--spoil twice` the service serves some calls twice. Each
+then ends with 1 within a minute or two, and so shows that these checks see what is broken; of calls they are tried on
+written lines too before the first round. Logs and what was written down are kept in FOLDER, or where something failed
+in a new folder, which is named. Two lines a round tell what happened.
 
 In tests/all: 1 PROGRAM, 240 s."""
 import argparse
@@ -88,8 +89,8 @@ def neighbour(node: int, step: int) -> int:
 
 
 class Ring:
-    """The links: for each of them and each end a socket that stands for the other end. Spurs are links of further nodes,
-    each to one of the ring."""
+    """The links: for each of them and each end a socket that stands for the other end. Spurs are links of further
+    nodes, each to one of the ring."""
 
     def __init__(self, chance: random.Random, spurs: Mapping[int, int]) -> None:
         self.chance, self.spurs = chance, spurs
@@ -124,7 +125,9 @@ class Ring:
     def routes(self, node: int) -> dict[int, int]:
         """At a node of the ring, by each other node the link that leads to it."""
         routes = {neighbour(node, step): 1 if step > 0 else 2 for step in (1, 2, -1, -2)}
-        return routes | {far: self.neighbours[node].index(far) + 1 if at == node else routes[at] for far, at in self.spurs.items()}
+        return routes | {
+            far: self.neighbours[node].index(far) + 1 if at == node else routes[at] for far, at in self.spurs.items()
+        }
 
     def take_all(self, node: int) -> None:
         """Takes all that came from a node."""
@@ -212,11 +215,20 @@ class Round:
 
     def commands(self, node: int, seconds: float) -> list[str]:
         """What a life of a node does: messages to all others, and reads of all that may come."""
-        commands = [(at, f"at {at} read {other}:{port}>{node}:{port} 65536") for other in NODES if other != node for port in PORTS
-                    for at in range(READ_EACH, int(seconds * 1000), READ_EACH)]
+        commands = [
+            (at, f"at {at} read {other}:{port}>{node}:{port} 65536")
+            for other in NODES
+            if other != node
+            for port in PORTS
+            for at in range(READ_EACH, int(seconds * 1000), READ_EACH)
+        ]
         at = 0
         while (at := at + self.chance.randrange(1, GAP)) < seconds * 1000 - 1_000:
-            other, port, size = self.chance.choice([it for it in NODES if it != node]), self.chance.choice(PORTS), self.chance.choice(SIZES)
+            other, port, size = (
+                self.chance.choice([it for it in NODES if it != node]),
+                self.chance.choice(PORTS),
+                self.chance.choice(SIZES),
+            )
             flow = f"{node}:{port}>{other}:{port}"
             self.count += 1
             self.sent[flow][self.count] = size
@@ -226,8 +238,20 @@ class Round:
     def script(self, node: int, seconds: float) -> str:
         how = self.anew if self.logs[node] else "first"
         head = [PARAMS.line(), f"me {node} {how}", f"local {HOST}:{self.ring.ports[node]}"]
-        head += [f"peer {link} {HOST}:{self.ring.port(node, other)} {CHARGE} 0" for link, other in enumerate(self.ring.neighbours[node], 1)]
-        return "".join(f"{it}\n" for it in [*head, *(f"route {to} {link}" for to, link in self.ring.routes(node).items()), "shelf 64", "go", *self.commands(node, seconds)])
+        head += [
+            f"peer {link} {HOST}:{self.ring.port(node, other)} {CHARGE} 0"
+            for link, other in enumerate(self.ring.neighbours[node], 1)
+        ]
+        return "".join(
+            f"{it}\n"
+            for it in [
+                *head,
+                *(f"route {to} {link}" for to, link in self.ring.routes(node).items()),
+                "shelf 64",
+                "go",
+                *self.commands(node, seconds),
+            ]
+        )
 
     def start(self, node: int, left: float) -> None:
         """Starts a life of a node."""
@@ -235,7 +259,9 @@ class Round:
         text = self.script(node, seconds)
         log = self.folder / f"{node}-{len(self.logs[node]):03}.log"
         with log.open("wb") as out:
-            process = subprocess.Popen([self.path, "node"], stdin=subprocess.PIPE, stdout=out, stderr=subprocess.DEVNULL)
+            process = subprocess.Popen(
+                [self.path, "node"], stdin=subprocess.PIPE, stdout=out, stderr=subprocess.DEVNULL
+            )
         process.stdin.write(text.encode())
         process.stdin.close()
         self.logs[node].append(log)
@@ -301,7 +327,9 @@ class Round:
     def finish(self) -> None:
         """Waits for those that haven't met their stop yet."""
         until = time.monotonic() + 20
-        while (any(it.process.poll() is None for it in self.lives.values()) or not self.callers.is_over()) and time.monotonic() < until:
+        while (
+            any(it.process.poll() is None for it in self.lives.values()) or not self.callers.is_over()
+        ) and time.monotonic() < until:
             self.ring.run(0.25)
             self.callers.look_after()
         for node, life in self.lives.items():
@@ -316,7 +344,12 @@ class Round:
     def judge(self) -> None:
         """Looks at the logs."""
         paths = [str(log) for node in NODES for log in self.logs[node]]
-        ran = subprocess.run([sys.executable, str(TOP / "tools" / "fieldaudit.py"), *paths, "--deltat", self.path], capture_output=True, text=True, check=False)
+        ran = subprocess.run(
+            [sys.executable, str(TOP / "tools" / "fieldaudit.py"), *paths, "--deltat", self.path],
+            capture_output=True,
+            text=True,
+            check=False,
+        )
         if (ran.returncode, ran.stdout) != (0, "audit yes\n"):
             self.faults.append(f"fieldaudit ends with {ran.returncode}: {(ran.stdout or ran.stderr).strip()[:300]}")
         seen: Counter[tuple[str, int]] = Counter()
@@ -327,8 +360,13 @@ class Round:
         if twice:
             self.faults.append(f"read twice: {', '.join(twice[:5])}")
         self.counts["read"] = len(seen)
-        happened = {"kills": self.counts["killed"], "losses": self.ring.counts["dropped"], "repeats": self.ring.counts["repeated"],
-                    "relayed packets": self.counts["relayed"], "half of the messages": self.is_busy() or self.counts["read"] * 2 >= self.counts["taken"]}
+        happened = {
+            "kills": self.counts["killed"],
+            "losses": self.ring.counts["dropped"],
+            "repeats": self.ring.counts["repeated"],
+            "relayed packets": self.counts["relayed"],
+            "half of the messages": self.is_busy() or self.counts["read"] * 2 >= self.counts["taken"],
+        }
         self.faults += [f"too little happened: {name}" for name, it in happened.items() if not it]
         self.faults += self.callers.judge(self.is_busy())
 
@@ -372,11 +410,14 @@ class Round:
     def told(self) -> str:
         passed = self.ring.counts
         mine = self.counts
-        return (f"{mine['taken']} messages taken, {mine['read']} read whole, {mine['uncertain']} segments uncertain; "
-                f"{mine['killed']} kills, {mine['started again']} starts; {passed['passed'] + passed['repeated']} datagrams passed, "
-                f"{passed['dropped']} dropped, {passed['repeated']} twice, {passed['held too long']} held too long and dropped; "
-                f"{mine['relayed']} packets relayed; the node that ran on has {mine['KiB']} KiB"
-                + ("; the machine was too busy to ask for half of the messages and of the calls" if self.is_busy() else ""))
+        return (
+            f"{mine['taken']} messages taken, {mine['read']} read whole, {mine['uncertain']} segments uncertain;"
+            f" {mine['killed']} kills, {mine['started again']} starts;"
+            f" {passed['passed'] + passed['repeated']} datagrams passed, {passed['dropped']} dropped,"
+            f" {passed['repeated']} twice, {passed['held too long']} held too long and dropped;"
+            f" {mine['relayed']} packets relayed; the node that ran on has {mine['KiB']} KiB"
+            + ("; the machine was too busy to ask for half of the messages and of the calls" if self.is_busy() else "")
+        )
 
 
 def minutes(word: str) -> float:

@@ -1,10 +1,11 @@
 #!/usr/bin/env python3
-"""A node of calls of tests/soak.py: `soak_caller.py PLACE`, a Place of tests/soak_calls.py as JSON. The service writes a
-line before it replies, and replies late and out of order; a client has some calls under way at once, each of which it
+"""A node of calls of tests/soak.py: `soak_caller.py PLACE`, a Place of tests/soak_calls.py as JSON. The service writes
+a line before it replies, and replies late and out of order; a client has some calls under way at once, each of which it
 writes down before it makes it. Nothing of a call may be done twice. It ends with 0 at its moment, and is killed before.
 
-Spoilt as `first`, it opens its node each time as one that never ran, with the same life, and a service opens it anew once
-or twice a second, which is faster than a process starts. A service that is spoilt as `twice` serves one of 50 calls twice.
+Spoilt as `first`, it opens its node each time as one that never ran, with the same life, and a service opens it anew
+once or twice a second, which is faster than a process starts. A service that is spoilt as `twice` serves one of 50
+calls twice.
 
 In tests/all: not a test."""
 import asyncio
@@ -30,8 +31,8 @@ SERVING, THINKING = 0.03, 0.2
 
 
 class Notes:
-    """What a node wrote down over all of its lives. A line is in the file before the node goes on, so whoever kills it takes
-    nothing of it away."""
+    """What a node wrote down over all of its lives. A line is in the file before the node goes on, so whoever kills it
+    takes nothing of it away."""
 
     def __init__(self, path: pathlib.Path) -> None:
         before = lines_of(path)
@@ -76,7 +77,9 @@ class Caller:
 
     async def run(self) -> None:
         while self.left() > 0:
-            async with deltat.AsyncUdp(self.opened(), (HOST, self.place.port), {self.place.next_hop: (HOST, self.place.to)}, watch=False) as udp:
+            async with deltat.AsyncUdp(
+                self.opened(), (HOST, self.place.port), {self.place.next_hop: (HOST, self.place.to)}, watch=False
+            ) as udp:
                 calls = deltat.AsyncCalls(udp)
                 await (self.serve(calls) if self.place.number == SERVICE else self.ask(calls))
         self.notes.note("over")

@@ -1,5 +1,5 @@
-"""Calls under way in tests/soak.py: a service and its clients, each a process and a node of the library (tests/soak_caller.py).
-They are killed and started again while they call; what they wrote down is judged here.
+"""Calls under way in tests/soak.py: a service and its clients, each a process and a node of the library
+(tests/soak_caller.py). They are killed and started again while they call; what they wrote down is judged here.
 
 Each writes lines of a word and numbers, over all of its lives, into a file of its own:
 
@@ -7,9 +7,9 @@ Each writes lines of a word and numbers, over all of its lives, into a file of i
 - a client `made CALL` before it makes a call, and then `answered CALL ANSWER`, `unsure CALL` or `declined CALL`;
 - the service `served CALL ANSWER` before it replies, and it doesn't look whether it served that call before.
 
-A CALL is a number that never comes again: node and port of its caller, and how many calls they made before. An ANSWER is a
-number that the service drew for that very line. Both go as the first octets of a body that is theirs alone (`lib.body`);
-the number of octets that are no such body is 0.
+A CALL is a number that never comes again: node and port of its caller, and how many calls they made before. An ANSWER
+is a number that the service drew for that very line. Both go as the first octets of a body that is theirs alone
+(`lib.body`); the number of octets that are no such body is 0.
 
 In tests/all: not a test."""
 import json
@@ -48,8 +48,8 @@ Lines = list[tuple[str, list[int]]]
 
 @dataclass(frozen=True)
 class Place:
-    """What a node of calls is told: its number, the next hop, its port and where it sends; where it writes; the network's
-    parameters; when it ends, in ms of `now`; what its chance begins with; and how it is spoilt, if it is."""
+    """What a node of calls is told: its number, the next hop, its port and where it sends; where it writes; the
+    network's parameters; when it ends, in ms of `now`; what its chance begins with; and how it is spoilt, if it is."""
 
     number: int
     next_hop: int
@@ -64,7 +64,8 @@ class Place:
 
     @property
     def patience(self) -> float:
-        """In seconds: as long as a request that was sent at once and its answer are under way, and the service's time."""
+        """In seconds: as long as a request that was sent at once and its answer are under way, and the service's
+        time."""
         mpl, r = self.params[:2]
         return (2 * (mpl + r) + 300) / 1000
 
@@ -127,7 +128,9 @@ def judged(journal: Lines, clients: Sequence[Lines]) -> tuple[Counter[str], dict
         "served twice": [call for call, count in times.items() if count > 1],
         "served, and made by nobody": [call for call in times if call not in made],
         "served behind a later one of its flow": behind_later(call for call, _ in served),
-        "answered otherwise than served": [it[0] for word, it in told if word == "answered" and answers.get(it[0]) != it[1]],
+        "answered otherwise than served": [
+            it[0] for word, it in told if word == "answered" and answers.get(it[0]) != it[1]
+        ],
         "declined, and served": [call for call in of["declined"] if call in times],
         "ended twice, or not made": [call for call, count in ended.items() if count > 1 or call not in made],
         "without an end": [call for _, lost in ends for call in lost],
@@ -157,20 +160,30 @@ WRONG = [
 def unseen() -> list[str]:
     """What `judged` doesn't see, or sees where all is right."""
     right = judged(lines_in(JOURNAL), [lines_in(NOTES)])[1]
-    missed = [name for name, journal, notes in WRONG if not judged(lines_in(JOURNAL + journal), [lines_in(NOTES + notes)])[1][name]]
-    return [f"seen where all is right: {name}" for name, calls in right.items() if calls] + [f"not seen: {name}" for name in missed]
+    missed = [
+        name
+        for name, journal, notes in WRONG
+        if not judged(lines_in(JOURNAL + journal), [lines_in(NOTES + notes)])[1][name]
+    ]
+    return [f"seen where all is right: {name}" for name, calls in right.items() if calls] + [
+        f"not seen: {name}" for name in missed
+    ]
 
 
 # --- the processes
 
 
 class Callers:
-    """The service and its clients in a round of so many seconds. With no places there are none, and nothing is judged."""
+    """The service and its clients in a round of so many seconds. With no places there are none, and nothing is
+    judged."""
 
     def __init__(self, places: Sequence[Place], chance: random.Random, seconds: float) -> None:
         self.chance, self.seconds = chance, seconds
         end = now() + round(seconds * 1000)
-        self.places = {it.number: replace(it, until=end if it.number == SERVICE else end - round(it.patience * 1000) - 1_000) for it in places}
+        self.places = {
+            it.number: replace(it, until=end if it.number == SERVICE else end - round(it.patience * 1000) - 1_000)
+            for it in places
+        }
         # in half of those rounds that are long enough to see it grow the service isn't killed
         self.runs_on = seconds >= GROWING and chance.random() < 0.5 and not any(it.spoilt for it in places)
         self.running: dict[int, "subprocess.Popen[bytes]"] = {}
@@ -208,7 +221,9 @@ class Callers:
         self.kill_at[number] = kill_at if is_killed else math.inf
         with open(f"{place.notes}.err", "ab") as err:
             words = [sys.executable, str(TOP / "tests" / "soak_caller.py"), json.dumps(asdict(place))]
-            self.running[number] = subprocess.Popen(words, stdin=subprocess.DEVNULL, stdout=subprocess.DEVNULL, stderr=err)
+            self.running[number] = subprocess.Popen(
+                words, stdin=subprocess.DEVNULL, stdout=subprocess.DEVNULL, stderr=err
+            )
 
     def is_over(self) -> bool:
         return not self.running and not self.due
@@ -226,7 +241,11 @@ class Callers:
         lines = {number: lines_of(pathlib.Path(place.notes)) for number, place in self.places.items()}
         counts, wrong = judged(lines.pop(SERVICE, []), list(lines.values()))
         self.counts.update(counts)
-        faults = [f"{len(calls)} calls {name}: {', '.join(f'{it:x}' for it in calls[:5])}" for name, calls in wrong.items() if calls]
+        faults = [
+            f"{len(calls)} calls {name}: {', '.join(f'{it:x}' for it in calls[:5])}"
+            for name, calls in wrong.items()
+            if calls
+        ]
         if growth(self.sizes) > MOST_GROWN:
             faults.append(f"the service grew by {growth(self.sizes)} KiB, to {self.sizes[-1]}")
         if self.places and self.seconds >= LONG:
@@ -241,6 +260,13 @@ class Callers:
 
     def told(self) -> str:
         it, last = self.counts, self.sizes[-1] if self.sizes else 0
-        kills = f"none of the service, which has {last} KiB, {growth(self.sizes)} more than at a third" if self.runs_on else f"{it['kills of the service']} of the service"
-        return (f"{it['made']} calls made, {it['answered']} answered, {it['unsure']} unsure, {it['declined']} declined, {it['waited']} whose client was killed; "
-                f"{it['served']} served; {it['kills of clients']} kills of clients, {kills}")
+        kills = (
+            f"none of the service, which has {last} KiB, {growth(self.sizes)} more than at a third"
+            if self.runs_on
+            else f"{it['kills of the service']} of the service"
+        )
+        return (
+            f"{it['made']} calls made, {it['answered']} answered, {it['unsure']} unsure, {it['declined']} declined,"
+            f" {it['waited']} whose client was killed; {it['served']} served; {it['kills of clients']} kills of"
+            f" clients, {kills}"
+        )

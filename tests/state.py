@@ -1,6 +1,6 @@
 #!/usr/bin/env python3
-"""The state folder of a node: lib/udp/state.c, by deltat.State of Python, and who else keeps its files. `tests/state.py [TEST ..]`;
-ends with 77 where `make -C lib` hasn't made the library, and with 1 where one of these fails:
+"""The state folder of a node: lib/udp/state.c, by deltat.State of Python, and who else keeps its files. `tests/state.py
+[TEST ..]`; ends with 77 where `make -C lib` hasn't made the library, and with 1 where one of these fails:
 
 - answers: what a start is, after no life, one that was closed in order, one that was killed, another boot, another
   clock; after files that are damaged, cut off, gone or foreign; and that a folder of another number or of other
@@ -130,7 +130,9 @@ def starts(folder: pathlib.Path) -> list[tuple[str, bool]]:
         found = [("a new folder", one_life(folder, [1000], 1000) == (False, 1000, 1))]
         found.append(("closed in order: from the last datagram on", one_life(folder, [1500], 1100) == (True, 1000, 2)))
         found.append(("long ago", one_life(folder, [9000], 8000, orderly=False) == (True, 1500, 3)))
-        found.append(("killed: from what was promised on", one_life(folder, [], 9500) == (True, 9000 + max(QUIET // 4, 50), 4)))
+        found.append(
+            ("killed: from what was promised on", one_life(folder, [], 9500) == (True, 9000 + max(QUIET // 4, 50), 4))
+        )
         found.append(("killed just now: the whole", one_life(folder, [9800], 9001) == (True, 9001, 5)))
         found.append(("nothing was done since", one_life(folder, [], 9900) == (True, 9800, 6)))
         found.append(("what is noted in the silence doesn't leave", one_life(folder, [9910], 9905) == (True, 9800, 7)))
@@ -144,7 +146,12 @@ def starts(folder: pathlib.Path) -> list[tuple[str, bool]]:
         found.append(("a clock that isn't known", one_life(folder, [], 900) == (True, 900, 12)))
         found.append(("once more", one_life(folder, [], 950) == (True, 950, 13)))
     with machine(NO_BOOT):
-        found.append(("a machine that names no boots", one_life(folder, [], 990) == (True, 990, 14) and one_life(folder, [], 999) == (True, 999, 15)))
+        found.append(
+            (
+                "a machine that names no boots",
+                one_life(folder, [], 990) == (True, 990, 14) and one_life(folder, [], 999) == (True, 999, 15),
+            )
+        )
     return found
 
 
@@ -180,7 +187,12 @@ def damages(top: pathlib.Path) -> list[tuple[str, bool]]:
             # (an empty or a missing file `last` is what a kill leaves of a first start)
             is_warned = bool(WARNED.lines) or name == "last" and damage in (nothing, pathlib.Path.unlink)
             is_kept = name == "last" or damage is pathlib.Path.unlink or (folder / "state.damaged").exists()
-            found.append((f"{name}: {damage.__name__}", (again, at) == (True, 1050) and len(set(lives)) == 3 and is_warned and is_kept))
+            found.append(
+                (
+                    f"{name}: {damage.__name__}",
+                    (again, at) == (True, 1050) and len(set(lives)) == 3 and is_warned and is_kept,
+                )
+            )
     for name in ("state", "lock", "node-7.stamp"):
         folder = top / f"leads-nowhere-{name}"
         folder.mkdir()
@@ -193,24 +205,61 @@ def refusals(top: pathlib.Path) -> list[tuple[str, bool]]:
     folder = top / "refusals"
     with machine(boot_named(1)):
         one_life(folder, [1000], 1000)
-        found = [("another number", fails(deltat.StateError, "of node 1, and this is node 2", lambda: deltat.State(folder, 2, PARAMS)))]
-        found.append(("other parameters", fails(deltat.StateError, "mpl was 30 and is 31", lambda: deltat.State(folder, 1, OTHER))))
+        found = [
+            (
+                "another number",
+                fails(deltat.StateError, "of node 1, and this is node 2", lambda: deltat.State(folder, 2, PARAMS)),
+            )
+        ]
+        found.append(
+            (
+                "other parameters",
+                fails(deltat.StateError, "mpl was 30 and is 31", lambda: deltat.State(folder, 1, OTHER)),
+            )
+        )
         found.append(("it is as it was", one_life(folder, [], 1001) == (True, 1000, 2)))
         with deltat.State(folder, 1, OTHER, changed=True) as state:
             found.append(("other parameters that were changed", state.opens_at(1010) == 1010 and state.life == 3))
         begun = time.monotonic()
         with deltat.State(folder, 1, PARAMS, changed=True) as state:
-            found.append(("shorter ones wait for the longer silence", state.opens_at(1020) == 1020 and time.monotonic() - begun >= 0.003))
+            found.append(
+                (
+                    "shorter ones wait for the longer silence",
+                    state.opens_at(1020) == 1020 and time.monotonic() - begun >= 0.003,
+                )
+            )
         with deltat.State(folder, 1, PARAMS, again=True) as state:
-            found.append(("`again`: the whole, and a drawn life", state.opens_at(1030) == 1030 and state.life >= 1 << 31))
+            found.append(
+                ("`again`: the whole, and a drawn life", state.opens_at(1030) == 1030 and state.life >= 1 << 31)
+            )
             found.append(("one opening a state", fails(deltat.StateError, "one opening", lambda: state.opens_at(1040))))
-            found.append(("a life more", state.next_life() == state.life and str(state.life) in (folder / "state").read_text()))
+            found.append(
+                ("a life more", state.next_life() == state.life and str(state.life) in (folder / "state").read_text())
+            )
             state.note_packet(1031)
-        for name, call in (("note", lambda: state.note_packet(1032)), ("note", lambda: state.note_packet(0)), ("life", state.next_life)):
+        for name, call in (
+            ("note", lambda: state.note_packet(1032)),
+            ("note", lambda: state.note_packet(0)),
+            ("life", state.next_life),
+        ):
             found.append((f"closed: {name}", fails(deltat.StateError, "is closed", call)))
         (folder / "state").write_text("node 3\n")
-        found.append(("a damaged file of another number", fails(deltat.StateError, "of node 3", lambda: deltat.State(folder, 1, PARAMS))))
-        found.append(("no number", fails(deltat.InvalidArgument, "node is 4294967296; it must be", lambda: deltat.State(folder, 1 << 32, PARAMS))))
+        found.append(
+            (
+                "a damaged file of another number",
+                fails(deltat.StateError, "of node 3", lambda: deltat.State(folder, 1, PARAMS)),
+            )
+        )
+        found.append(
+            (
+                "no number",
+                fails(
+                    deltat.InvalidArgument,
+                    "node is 4294967296; it must be",
+                    lambda: deltat.State(folder, 1 << 32, PARAMS),
+                ),
+            )
+        )
         blocked = top / "file"
         blocked.write_text("")
         found.append(("no folder", fails(OSError, "file", lambda: deltat.State(blocked, 1, PARAMS))))
@@ -221,8 +270,13 @@ def with_nodes(top: pathlib.Path) -> list[tuple[str, bool]]:
     """What a node asks of its state, and a service."""
     found, links = [], [deltat.Link(1, CHARGE)]
     with deltat.State(top / "node", 1, PARAMS) as state:
-        wrong = [lambda: deltat.Node(2, PARAMS, links, {2: 1}, state=state), lambda: deltat.Node(1, OTHER, links, {2: 1}, state=state)]
-        found += [("a node with the state of another one", fails(deltat.StateError, "make a state", it)) for it in wrong]
+        wrong = [
+            lambda: deltat.Node(2, PARAMS, links, {2: 1}, state=state),
+            lambda: deltat.Node(1, OTHER, links, {2: 1}, state=state),
+        ]
+        found += [
+            ("a node with the state of another one", fails(deltat.StateError, "make a state", it)) for it in wrong
+        ]
         both = lambda: deltat.Node(1, PARAMS, links, {2: 1}, start=deltat.Start.AGAIN, state=state)  # noqa: E731
         found.append(("a node with both", fails(TypeError, "more than one start", both)))
         node = deltat.Node(1, PARAMS, links, {2: 1}, state=state)
@@ -235,11 +289,22 @@ def with_nodes(top: pathlib.Path) -> list[tuple[str, bool]]:
         found.append(("a service with a life of its own", fails(TypeError, "a life and a state were given", wrong)))
         service = deltat.Service(1, None, PARAMS, links, {2: 1}, state=state)
         service.set_port(10, deltat.PortKind.CALLER)
-        found.append(("a service that is silent still", 0 < state.silence() <= QUIET and fails(deltat.Declined, "silent until", lambda: service.call(FLOW, b"x", 100))))
+        found.append(
+            (
+                "a service that is silent still",
+                0 < state.silence() <= QUIET
+                and fails(deltat.Declined, "silent until", lambda: service.call(FLOW, b"x", 100)),
+            )
+        )
         time.sleep(state.silence() / 1000)
         found.append(("and then calls", service.call(FLOW, b"x", 100) >> 32 == state.life == service.life == 2))
         service.set_life(state.next_life())
-        found.append(("by another life", service.call(FLOW, b"x", 100) >> 32 == 3 and "life 3\n" in (top / "node" / "state").read_text()))
+        found.append(
+            (
+                "by another life",
+                service.call(FLOW, b"x", 100) >> 32 == 3 and "life 3\n" in (top / "node" / "state").read_text(),
+            )
+        )
         service.close()
     return found
 
@@ -255,9 +320,15 @@ try: node.send(deltat.Flow(1, 1, 2, 1), b"x")
 except deltat.StateError as why: print(why, len(list(node.datagrams())), "frames")
 """
     before = begun + "full()\ntry: deltat.State(folder, 1, params)\nexcept OSError as why: print(type(why).__name__)"
-    told = [subprocess.run([sys.executable, "-c", it], capture_output=True, text=True, timeout=30).stdout for it in (after, before)]
+    told = [
+        subprocess.run([sys.executable, "-c", it], capture_output=True, text=True, timeout=30).stdout
+        for it in (after, before)
+    ]
     right = "last can't be written" in told[0] and told[0].endswith(" 0 frames\n")
-    return [("a disk that is full: nothing is sent", right), ("a disk that is full: nothing starts", told[1] == "OSError\n")]
+    return [
+        ("a disk that is full: nothing is sent", right),
+        ("a disk that is full: nothing starts", told[1] == "OSError\n"),
+    ]
 
 
 def with_check(text: str) -> bytes:
@@ -267,9 +338,13 @@ def with_check(text: str) -> bytes:
 
 def documented(top: pathlib.Path) -> list[tuple[str, bool]]:
     """The files that docs/formats.md shows are what is read and written."""
-    shown = re.findall(r"^```example\n(deltat .*?)```$", (TOP / "docs" / "formats.md").read_text(), re.MULTILINE | re.DOTALL)
+    shown = re.findall(
+        r"^```example\n(deltat .*?)```$", (TOP / "docs" / "formats.md").read_text(), re.MULTILINE | re.DOTALL
+    )
     texts = {it.split()[1]: it for it in shown}
-    node, *numbers, life = map(int, re.search(r"node (\d+)\nparams ([\d ]+)\nlife (\d+)", texts["state"]).expand(r"\1 \2 \3").split())
+    node, *numbers, life = map(
+        int, re.search(r"node (\d+)\nparams ([\d ]+)\nlife (\d+)", texts["state"]).expand(r"\1 \2 \3").split()
+    )
     boot, ahead, until = re.search(r"boot (\S+)\nclock (\S+)\nuntil (\d+)", texts["last"]).groups()
     folder = top / "documented"
     folder.mkdir()
@@ -290,7 +365,14 @@ def documented(top: pathlib.Path) -> list[tuple[str, bool]]:
 def answers() -> bool:
     with tempfile.TemporaryDirectory() as folder:
         top = pathlib.Path(folder)
-        found = [*starts(top / "a" / "b"), *damages(top), *refusals(top), *with_nodes(top), *unwritable(top), *documented(top)]
+        found = [
+            *starts(top / "a" / "b"),
+            *damages(top),
+            *refusals(top),
+            *with_nodes(top),
+            *unwritable(top),
+            *documented(top),
+        ]
     wrong = [name for name, holds in found if not holds]
     print(f"answers: {len(found) - len(wrong)} of {len(found)} hold" + "".join(f"\n  wrong: {it}" for it in wrong))
     return not wrong
@@ -304,7 +386,10 @@ def owners() -> bool:
         folder = os.path.join(top, "it")
         state = deltat.State(folder, 1, PARAMS)
         state.opens_at(deltat.now())
-        tries = f"import sys; sys.path.insert(0, {str(TOP / 'bindings' / 'python')!r}); import deltat; deltat.State({folder!r}, 1, deltat.{PARAMS!r})"
+        tries = (
+            f"import sys; sys.path.insert(0, {str(TOP / 'bindings' / 'python')!r}); import deltat;"
+            f" deltat.State({folder!r}, 1, deltat.{PARAMS!r})"
+        )
         second = subprocess.run([sys.executable, "-c", tries], capture_output=True, text=True)
         right = second.returncode == 1 and f"in use by process {os.getpid()};" in second.stderr
         right &= fails(deltat.StateError, f"in use by process {os.getpid()};", lambda: deltat.State(folder, 1, PARAMS))
@@ -394,7 +479,9 @@ class Machine:
         at = state.opens_at(self.now)
         self.silent_until = at + QUIET if is_again(state) else self.now
         if self.last and self.last[0] == self.boot and self.silent_until < self.last[1] + QUIET:
-            self.wrong.append(f"silent until {self.silent_until}, and the last datagram was at {self.last[1]} ({state.why})")
+            self.wrong.append(
+                f"silent until {self.silent_until}, and the last datagram was at {self.last[1]} ({state.why})"
+            )
         if self.boot != self.opened[0] and at < self.now:
             self.wrong.append("another boot, and not the whole")
         if at > self.now:
@@ -479,11 +566,23 @@ def traced(place: pathlib.Path, base: int, *options: str) -> int:
     """Runs the program under strace, with its folder and its log in a place. Its status."""
     environment = {**os.environ, "PYTHONHASHSEED": "0", "PYTHONDONTWRITEBYTECODE": "1"}
     words = [sys.executable, "-S", __file__, "child", str(place / "it"), str(place / "log"), str(base)]
-    return subprocess.run(["strace", "-qq", *options, *words], env=environment, stderr=subprocess.DEVNULL, timeout=60).returncode
+    return subprocess.run(
+        ["strace", "-qq", *options, *words], env=environment, stderr=subprocess.DEVNULL, timeout=60
+    ).returncode
 
 
 def killed_at(call: str, count: int, place: pathlib.Path, base: int) -> None:
-    traced(place, base, "-f", "--seccomp-bpf", "-o", "/dev/null", "-e", f"trace={call}", f"--inject={call}:signal=KILL:when={count}")
+    traced(
+        place,
+        base,
+        "-f",
+        "--seccomp-bpf",
+        "-o",
+        "/dev/null",
+        "-e",
+        f"trace={call}",
+        f"--inject={call}:signal=KILL:when={count}",
+    )
 
 
 def killed_at_each_call() -> bool:
@@ -610,7 +709,9 @@ def worlds(kind: type[deltat.State], count: int) -> tuple[int, int, int]:
     wrong = delivered = settled = 0
     kept = clock.now
     for seed in range(count):
-        with tempfile.TemporaryDirectory(dir="/dev/shm" if os.path.isdir("/dev/shm") else None) as folder, machine(boot_named(1)):
+        with tempfile.TemporaryDirectory(dir="/dev/shm" if os.path.isdir("/dev/shm") else None) as folder, machine(
+            boot_named(1)
+        ):
             it = World(seed, pathlib.Path(folder), kind)
             clock.now = lambda: it.now
             try:
@@ -628,21 +729,27 @@ def worlds(kind: type[deltat.State], count: int) -> tuple[int, int, int]:
 def exchanged() -> bool:
     wrong, delivered, settled = worlds(deltat.State, 40)
     hasty, deaf = worlds(Hasty, 40)[0], worlds(Deaf, 40)[0]
-    print(f"exchanged: {delivered} messages delivered, {settled} acknowledged, {wrong} runs wrong; without silence {hasty}, noted too early {deaf}")
+    print(
+        f"exchanged: {delivered} messages delivered, {settled} acknowledged, {wrong} runs wrong; without silence"
+        f" {hasty}, noted too early {deaf}"
+    )
     return wrong == 0 and delivered > 300 and settled > 200 and hasty > 0 and deaf > 0
 
 
 # --- tools
 
 
-def listener(one: str, two: str, heard: pathlib.Path, environment: dict[str, str], *delays: str) -> "subprocess.Popen[bytes]":
+def listener(
+    one: str, two: str, heard: pathlib.Path, environment: dict[str, str], *delays: str
+) -> "subprocess.Popen[bytes]":
     with heard.open("wb") as out:
         words = [sys.executable, CAT, two, one, "--listen", *delays]
         return subprocess.Popen(words, stdout=out, env=environment, stdin=subprocess.DEVNULL)
 
 
 def loops(name: str, count: int, kills: bool, *delays: str) -> bool:
-    """Starts one sender after another. On a busy machine a line may be told as uncertain; what is acknowledged is heard."""
+    """Starts one sender after another. On a busy machine a line may be told as uncertain; what is acknowledged is
+    heard."""
     one, two = f"1@{HOST}:{free_port()}", f"2@{HOST}:{free_port()}"
     with tempfile.TemporaryDirectory() as folder:
         heard, environment = pathlib.Path(folder) / "heard", {**os.environ, "XDG_STATE_HOME": folder}
@@ -675,7 +782,9 @@ def loops(name: str, count: int, kills: bool, *delays: str) -> bool:
 
 def loop() -> bool:
     # (where the machine is so busy that a start takes half a second, only the second loop has to wait)
-    return loops("loop", 20, False) and loops("loop, by longer delays", 6, False, "--delay", "900", "--round-trip", "100")
+    return loops("loop", 20, False) and loops(
+        "loop, by longer delays", 6, False, "--delay", "900", "--round-trip", "100"
+    )
 
 
 def stopped() -> bool:
@@ -686,7 +795,9 @@ def stopped() -> bool:
 
 
 def fresh() -> bool:
-    table = re.findall(r"^\| ([\d,]+) \| ([\d,]+) \| ([^|]+) \|$", (TOP / "docs" / "premises.md").read_text(), re.MULTILINE)
+    table = re.findall(
+        r"^\| ([\d,]+) \| ([\d,]+) \| ([^|]+) \|$", (TOP / "docs" / "premises.md").read_text(), re.MULTILINE
+    )
     right = len(table) >= 3
     for numbers, openings, told in table:
         n, k = (int(it.replace(",", "")) for it in (numbers, openings))
@@ -725,7 +836,13 @@ def fresh() -> bool:
 
 
 TESTS = {
-    "answers": answers, "owners": owners, "model": model, "killed": killed_at_each_call, "exchanged": exchanged, "loop": loop, "stopped": stopped,
+    "answers": answers,
+    "owners": owners,
+    "model": model,
+    "killed": killed_at_each_call,
+    "exchanged": exchanged,
+    "loop": loop,
+    "stopped": stopped,
     "fresh": fresh,
 }
 

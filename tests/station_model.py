@@ -1,42 +1,16 @@
-"""A station of the definitions (docs/protocol.md), as plainly as it can be written, for tests that want reports and times
-of stations where the library isn't built. Sends are whole messages, its links have no pace, and it relays nothing. Offsets
-are numbers, and don't go round.
+"""A station of the definitions (docs/protocol.md), as plainly as it can be written, for tests that want reports and
+times of stations where the library isn't built. Sends are whole messages, its links have no pace, and it relays
+nothing. Offsets are numbers, and don't go round.
 
 In tests/all: not a test."""
 from collections import deque
 from dataclasses import dataclass, field
 from typing import NamedTuple
 
+from lib.parameters import Params
 from service_model import Flow, Piece, Report
 
 OUTSTANDING = 64
-
-
-@dataclass(frozen=True)
-class Params:
-    """Times in ms, rooms in octets."""
-
-    mpl: int = 1000
-    r: int = 3000
-    a: int = 200
-    rto: int = 500
-    probe: int = 800
-    seg: int = 100
-    cap: int = 4096
-    rcap: int = 4096
-    window: int = 4096
-
-    @property
-    def receive(self) -> int:
-        return self.mpl + self.r + self.a
-
-    @property
-    def give(self) -> int:
-        return 2 * self.mpl + self.r + self.a
-
-    @property
-    def send(self) -> int:
-        return 3 * self.mpl + self.r + self.a
 
 
 class Frame(NamedTuple):
@@ -218,13 +192,28 @@ class Station:
         while True:
             offered = []
             for at, it in enumerate(self._records()):
-                due = next(((kind, moment, at, it, what) for kind, moment, what in it.offers(self.params, now) if moment <= now), None)
+                due = next(
+                    (
+                        (kind, moment, at, it, what)
+                        for kind, moment, what in it.offers(self.params, now)
+                        if moment <= now
+                    ),
+                    None,
+                )
                 if due:
                     offered.append(due)
             if not offered:
                 return
             kind, _, _, it, what = min(offered, key=lambda it: it[:3])
-            {1: self._give_up, 2: self._release, 3: self._release_receive, 4: self._ack, 5: self._resend, 6: self._cut, 7: self._meet}[kind](it, what, now)
+            {
+                1: self._give_up,
+                2: self._release,
+                3: self._release_receive,
+                4: self._ack,
+                5: self._resend,
+                6: self._cut,
+                7: self._meet,
+            }[kind](it, what, now)
 
     def _leave(self, line: Line, frame: Frame) -> None:
         self.log.append(line)
@@ -254,7 +243,9 @@ class Station:
 
     def _ack(self, it: Receiver, _: object, now: int) -> None:
         it.due, it.told = None, it.free(self.params)
-        self._leave(Line("acked", it.flow, it.expected, window=it.told), Frame("ack", it.flow, 0, it.expected, window=it.told))
+        self._leave(
+            Line("acked", it.flow, it.expected, window=it.told), Frame("ack", it.flow, 0, it.expected, window=it.told)
+        )
 
     def _transmit(self, word: str, it: Sender, segment: Segment, now: int) -> None:
         run = segment.offset == it.left

@@ -51,7 +51,11 @@ def receiver_script(between: Between, stop: int = 3500) -> str:
 
 
 def sender(deltat: str, between: Between, sends: list[str], log: Path) -> "subprocess.Popen[bytes]":
-    return start(deltat, script(1, "first", between.nodes[0], between.port(1), [*sends, "at 2500 stop"], SHORT), out=log.open("wb"))
+    return start(
+        deltat,
+        script(1, "first", between.nodes[0], between.port(1), [*sends, "at 2500 stop"], SHORT),
+        out=log.open("wb"),
+    )
 
 
 def repeated(node: int, octets: bytes) -> int:
@@ -106,12 +110,16 @@ def blocked(deltat: str, word: str) -> tuple[int, bool]:
         sending = sender(deltat, between, [f"at 250 send 1:10>2:20 be {HELLO}", *more], Path(folder) / "1.log")
         first.wait(5)
         time.sleep(STOPPED + 0.7)
-        waits = int(Path(f"/proc/{receiver.pid}/syscall").read_text().split()[0] == "1") if readable(receiver.pid) else 1
+        waits = (
+            int(Path(f"/proc/{receiver.pid}/syscall").read_text().split()[0] == "1") if readable(receiver.pid) else 1
+        )
         out = receiver.stdout.read()
         receiver.wait(20)
         sending.wait(20)
     if word == "trace":
-        out = subprocess.run([deltat, "retrace"], input=text.encode() + b"trace\n" + out, capture_output=True, check=False).stdout
+        out = subprocess.run(
+            [deltat, "retrace"], input=text.encode() + b"trace\n" + out, capture_output=True, check=False
+        ).stdout
     return out.decode().count(HELLO), waits == 1
 
 
@@ -130,8 +138,15 @@ def late(deltat: str) -> tuple[bool, bool, bool]:
         log = Path(folder) / "2.log"
         reads = [f"at {at} read 1:10>2:20 8192" for at in range(1000, 5900, 20)]
         commands = [f"at 300 send 2:30>1:40 be {'7a' * 8000}", *reads, "at 6000 stop"]
-        other = start(deltat, script(2, "first", between.nodes[1], between.port(2), commands, SHORT), out=log.open("wb"))
-        tasks = ["at 1300 read 2:30>1:40 8192", f"at 1300 send 1:10>2:20 be {HELLO}", f"at 1400 send 1:10>2:20 be {world}", "at 5000 stop"]
+        other = start(
+            deltat, script(2, "first", between.nodes[1], between.port(2), commands, SHORT), out=log.open("wb")
+        )
+        tasks = [
+            "at 1300 read 2:30>1:40 8192",
+            f"at 1300 send 1:10>2:20 be {HELLO}",
+            f"at 1400 send 1:10>2:20 be {world}",
+            "at 5000 stop",
+        ]
         node = start(deltat, script(1, "first", between.nodes[0], between.port(1), tasks, SHORT))
         fcntl.fcntl(node.stdout.fileno(), F_SETPIPE_SZ, 4096)
         began.wait(5)
@@ -140,13 +155,16 @@ def late(deltat: str) -> tuple[bool, bool, bool]:
         node.wait(20)
         other.wait(20)
         read = world in log.read_text()
-    sent = re.search(r"^([0-9]+) 1 sent 1:10>2:20 0 5 dbe\n(?:.*\n)*?([0-9]+) 1 sent 1:10>2:20 0 5 ", told, re.MULTILINE)
+    sent = re.search(
+        r"^([0-9]+) 1 sent 1:10>2:20 0 5 dbe\n(?:.*\n)*?([0-9]+) 1 sent 1:10>2:20 0 5 ", told, re.MULTILINE
+    )
     settled = sent is not None and " settled 1:10>2:20 5 " in told[sent.end() :]
     return settled, read, "7a" * 4000 in told
 
 
 def tried(deltat: str) -> tuple[bool, bool, bool]:
-    """The same. A run whose sender wasn't blocked shows nothing, and there is another attempt, unless it lost octets."""
+    """The same. A run whose sender wasn't blocked shows nothing, and there is another attempt, unless it lost
+    octets."""
     for _ in range(ATTEMPTS):
         settled, read, waits = late(deltat)
         if waits or (settled and not read):
@@ -160,7 +178,10 @@ def frames(deltat: str, runs: int) -> tuple[bool, str]:
         found = list(pool.map(lambda _: tried(deltat), range(runs)))
     lost = sum(settled and not read for settled, read, _ in found)
     count = sum(it for _, _, it in found)
-    return lost == 0 and count == runs, f"octets were acknowledged and never delivered in {lost} of {runs} runs, {count} of which blocked"
+    return (
+        lost == 0 and count == runs,
+        f"octets were acknowledged and never delivered in {lost} of {runs} runs, {count} of which blocked",
+    )
 
 
 def readable(pid: int) -> bool:
@@ -186,7 +207,9 @@ def many(run, runs: int) -> tuple[bool, str]:
         found = list(pool.map(lambda _: attempted(run), range(runs)))
     twice, once = sum(count > 1 for count, _ in found), sum(count == 1 for count, _ in found)
     right = sum(well for _, well in found)
-    text = f"octets were read twice in {twice} of {runs} runs, once in {once}, never in {runs - twice - once}" + ("" if right == runs else f"; {runs - right} runs weren't as they should be")
+    text = f"octets were read twice in {twice} of {runs} runs, once in {once}, never in {runs - twice - once}" + (
+        "" if right == runs else f"; {runs - right} runs weren't as they should be"
+    )
     return once == runs and right == runs, text
 
 
@@ -217,7 +240,9 @@ def flooded(deltat: str, rate: int) -> tuple[int, int]:
     with socket.socket(socket.AF_INET, socket.SOCK_DGRAM) as source, tempfile.TemporaryDirectory() as folder:
         source.bind((HOST, 0))
         log = Path(folder) / "2.log"
-        node = start(deltat, script(2, "first", port, source.getsockname()[1], ["at 5000 stop"], SHORT), out=log.open("wb"))
+        node = start(
+            deltat, script(2, "first", port, source.getsockname()[1], ["at 5000 stop"], SHORT), out=log.open("wb")
+        )
         until = time.monotonic() + 5
         while kernel_drops(port) < 0 and time.monotonic() < until:
             time.sleep(0.01)
@@ -238,7 +263,10 @@ def busy(deltat: str) -> tuple[bool, str]:
             lost = rate - taken - dropped
             if lost == 0 or dropped > 0:
                 break
-        told.append(f"of {rate} datagrams in a second {taken} were taken, {dropped} had no room in the kernel, {lost} were dropped by the node")
+        told.append(
+            f"of {rate} datagrams in a second {taken} were taken, {dropped} had no room in the kernel, {lost} were"
+            " dropped by the node"
+        )
         if dropped == 0:
             return lost == 0, "; ".join(told)
     return False, "; ".join(told)
@@ -270,7 +298,8 @@ int clock_gettime(clockid_t id, struct timespec *t) {
     }
     syscall(SYS_clock_gettime, CLOCK_MONOTONIC, &now);
     if (!begun.tv_sec) begun = now;
-    if (id == CLOCK_BOOTTIME && (now.tv_sec - begun.tv_sec) * 1000 + (now.tv_nsec - begun.tv_nsec) / 1000000 > 400) t->tv_sec += 3600;
+    long since = (now.tv_sec - begun.tv_sec) * 1000 + (now.tv_nsec - begun.tv_nsec) / 1000000;
+    if (id == CLOCK_BOOTTIME && since > 400) t->tv_sec += 3600;
     return result;
 }
 """

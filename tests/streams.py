@@ -17,7 +17,9 @@ LOG = TOP / "crates" / "deltat_tests" / "data" / "short-exchange.out"
 def status(path, words, redirections):
     """The exit status of the program under a shell's redirections."""
     line = f'exec "$0" {words} {redirections}'
-    return subprocess.run(["sh", "-c", line, path], stdin=subprocess.DEVNULL, stderr=subprocess.DEVNULL, check=False).returncode
+    return subprocess.run(
+        ["sh", "-c", line, path], stdin=subprocess.DEVNULL, stderr=subprocess.DEVNULL, check=False
+    ).returncode
 
 
 def status_into_a_closed_pipe(path, words):

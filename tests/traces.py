@@ -44,14 +44,21 @@ def traced(path):
     passing.start()
     texts, nodes, outs = [], [], [tempfile.TemporaryFile(), tempfile.TemporaryFile()]
     for i in (0, 1):
-        commands = [f"at 200 send {FLOWS[i]} be {messages[i].hex()}", f"at 11000 read {FLOWS[1 - i]} 65536", "at 11100 stop"]
+        commands = [
+            f"at 200 send {FLOWS[i]} be {messages[i].hex()}",
+            f"at 11000 read {FLOWS[1 - i]} 65536",
+            "at 11100 stop",
+        ]
         texts.append(script(i + 1, 2 - i, ports[i], ends[i].getsockname()[1], commands))
         # into a file: a pipe that nobody reads yet would stop a node once it is full
         nodes.append(start(path, texts[i], "trace", outs[i]))
     statuses = [node.wait() for node in nodes]
     traces = [all_of(out) for out in outs]
     passing.join()
-    print(f"{told[1]} datagrams passed, {told[0]} dropped, {told[2]} repeated; traces of {[len(it) for it in traces]} octets")
+    print(
+        f"{told[1]} datagrams passed, {told[0]} dropped, {told[2]} repeated; traces of"
+        f" {[len(it) for it in traces]} octets"
+    )
     return texts, traces, messages, statuses == [0, 0] and told[0] > 0 and told[2] > 0
 
 

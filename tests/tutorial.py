@@ -42,9 +42,27 @@ from pathlib import Path
 
 from lib import PROGRAM, TOP
 
-PAGES = ["README.md", "docs/tutorial.md", "docs/parameters.md", "docs/operating.md", "docs/building.md", "docs/library.md", "docs/tools.md"]
+PAGES = [
+    "README.md",
+    "docs/tutorial.md",
+    "docs/parameters.md",
+    "docs/operating.md",
+    "docs/building.md",
+    "docs/library.md",
+    "docs/tools.md",
+]
 # what a page tells people to run and this doesn't: the whole build and its tests, and what changes the machine
-NOT_RUN = ("./build", "./check", "rt ci", "tests/all", "bench/all", "sudo ", "release/build.sh", "release/gate.sh", "make -C lib")
+NOT_RUN = (
+    "./build",
+    "./check",
+    "rt ci",
+    "tests/all",
+    "bench/all",
+    "sudo ",
+    "release/build.sh",
+    "release/gate.sh",
+    "make -C lib",
+)
 # reports that come more often, or not at all, where a machine is busy
 BUSY = {"put", "resent", "replied", "ignored", "quiet", "unsent"}
 SECONDS = 120
@@ -160,8 +178,16 @@ class Reader:
     def start(self, text: str) -> "subprocess.Popen[str]":
         # (the nodes of each page are new ones)
         places = {**os.environ, "XDG_STATE_HOME": self.states}
-        return subprocess.Popen(["bash", "-euc", "set -o pipefail\n" + text], cwd=self.top, stdin=subprocess.DEVNULL, stdout=subprocess.PIPE,
-                                stderr=subprocess.STDOUT, text=True, start_new_session=True, env=places)
+        return subprocess.Popen(
+            ["bash", "-euc", "set -o pipefail\n" + text],
+            cwd=self.top,
+            stdin=subprocess.DEVNULL,
+            stdout=subprocess.PIPE,
+            stderr=subprocess.STDOUT,
+            text=True,
+            start_new_session=True,
+            env=places,
+        )
 
     def service(self, text: str) -> "subprocess.Popen[str] | None":
         """Starts a service in Python, where there is what it needs."""
@@ -224,7 +250,9 @@ class Reader:
     def is_as_shown(self, block: Block) -> bool:
         if block.terminal:
             return shape(self.shown(block)) == shape(block.text)
-        return any(shape(given) == shape(block.text) if is_live else given == block.text for given, is_live in self.outputs)
+        return any(
+            shape(given) == shape(block.text) if is_live else given == block.text for given, is_live in self.outputs
+        )
 
     def is_a_file(self, block: Block, folder: Path) -> bool:
         return any(it.read_text(errors="replace") == block.text for it in folder.rglob("*") if it.is_file())
@@ -300,7 +328,13 @@ def why_not(reader: Reader, block: Block) -> str:
         return "" if reader.is_a_file(block, reader.units) else "no file has this text"
     if block.words and not block.terminal:
         return f"nothing is known of blocks of {' '.join(block.words)}"
-    if block.terminal and block.terminal in reader.left_out or reader.is_as_shown(block) or not block.terminal and reader.is_a_file(block, reader.top / "examples"):
+    if (
+        block.terminal
+        and block.terminal in reader.left_out
+        or reader.is_as_shown(block)
+        or not block.terminal
+        and reader.is_a_file(block, reader.top / "examples")
+    ):
         return ""
     return f"it was:\n{reader.shown(block)}"
 
@@ -339,7 +373,11 @@ def main() -> int:
     failed = 0
     for name in given.page or [it for it in PAGES if (TOP / it).exists()]:
         with tempfile.TemporaryDirectory() as folder:
-            reader = Installed(given.root.resolve()) if given.root else Reader(Path(folder) / "copy", os.path.abspath(given.program))
+            reader = (
+                Installed(given.root.resolve())
+                if given.root
+                else Reader(Path(folder) / "copy", os.path.abspath(given.program))
+            )
             wrong = read(name, reader, given.write)
         count = len(blocks((TOP / name).read_text()))
         print(f"{name}: {count} blocks, {'as shown' if not wrong else 'FAILED'}")

@@ -5,8 +5,8 @@
 lib/libdeltat.a and runs them as processes over 127.0.0.1, ::1 and `localhost`, under the driver's own wait, poll, epoll
 and GLib's loop; through a relay that loses 1 %; with an end that is killed and started again; in a forked child; with
 services that the program opened; until there is no room, and again; over a path that is too narrow for a segment; and
-with strangers: sixteen thousand that come and go, N (2,000) behind one address, as a gateway with nft's masquerade gives
-it to them, one whose address changes, and forgers; the state folder; and objects. Ends with 77 where there is no
+with strangers: sixteen thousand that come and go, N (2,000) behind one address, as a gateway with nft's masquerade
+gives it to them, one whose address changes, and forgers; the state folder; and objects. Ends with 77 where there is no
 compiler or no archive; a case whose tool is missing says so. `tests/udp.py --clients 10000 masqueraded` takes a minute.
 
 In tests/all: no words, 1200 s."""
@@ -572,8 +572,8 @@ def gateway() -> Iterator[tuple[tuple[str, ...], tuple[str, ...]]]:
 
 
 def masqueraded(built: Built, folder: pathlib.Path) -> str:
-    """Clients that nobody listed come, ask and go behind one address, whose ports the gateway gives to one after another:
-    all are answered, none twice, in bounded memory."""
+    """Clients that nobody listed come, ask and go behind one address, whose ports the gateway gives to one after
+    another: all are answered, none twice, in bounded memory."""
     if os.geteuid() or not all(shutil.which(it) for it in ("unshare", "nsenter", "ip", "nft")):
         return "left out: it needs root, unshare, nsenter, ip and nft"
     log, each, said = folder / "masqueraded.log", CLIENTS // 10, {"answered": 0, "unsure": 0, "wrong": 0}
@@ -591,7 +591,9 @@ def masqueraded(built: Built, folder: pathlib.Path) -> str:
         found = figures(server.stop())
     served = log.read_text().split()
     wants(said == {"answered": 10 * each, "unsure": 0, "wrong": 0}, str(said))
-    wants(len(served) == len(set(served)) == 10 * each, f"{len(served)} were served, {len(set(served))} of them different")
+    wants(
+        len(served) == len(set(served)) == 10 * each, f"{len(served)} were served, {len(set(served))} of them different"
+    )
     wants(found["learnt"] >= 10 * each and found["forgotten"] >= 5 * each, str(found))
     wants(max(sizes[6:]) < 1.25 * max(sizes[2:5]), f"the service grew: {sizes} KiB")
     grew = " ".join(map(str, sizes))
@@ -829,7 +831,8 @@ def state(built: Built, folder: pathlib.Path) -> str:
 
 
 def objects(built: Built, folder: pathlib.Path) -> str:
-    """Objects of every size arrive whole, once, and are those that were sent, at 0 and 1 % loss; one too great is refused."""
+    """Objects of every size arrive whole, once, and are those that were sent, at 0 and 1 % loss; one too great is
+    refused."""
     log, taken = folder / "objects.log", 0
     with subprocess.Popen(
         [built("objects"), "take", HOST, "0", "8", "5000000", str(log)], stdout=subprocess.PIPE, text=True

@@ -85,8 +85,8 @@ FAULTS += [
 
 
 def outcome(ran: "subprocess.CompletedProcess[str]", count: int, fault_of_loader: bool) -> str:
-    """What came of a run, in one of the words of Fault.ends; anything else is a fault of the driver. The first mappings of
-    memory are the loader's, which may crash without them."""
+    """What came of a run, in one of the words of Fault.ends; anything else is a fault of the driver. The first mappings
+    of memory are the loader's, which may crash without them."""
     found = udp.figures(ran.stdout)
     if ran.returncode == 0 and "too big" in ran.stdout:
         return "too big"
@@ -160,7 +160,10 @@ def main() -> int:
                         wrong += 1
                         print(f"{fault.call} {at}, {error}, {fault.loop}: {found}", flush=True)
             print(
-                f"{'driven: ' * fault.is_driven}{fault.call} ({fault.errors}): {', '.join(f'{count} {end}' for end, count in seen.items())}",
+                (
+                    f"{'driven: ' * fault.is_driven}{fault.call} ({fault.errors}):"
+                    f" {', '.join(f'{count} {end}' for end, count in seen.items())}"
+                ),
                 flush=True,
             )
         server.stop()

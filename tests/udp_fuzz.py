@@ -1,5 +1,6 @@
 #!/usr/bin/env python3
-"""Any octets as datagrams of the driver over UDP, with the address and undefined-behaviour sanitizers: tests/udp/fuzz.c.
+"""Any octets as datagrams of the driver over UDP, with the address and undefined-behaviour sanitizers:
+tests/udp/fuzz.c.
 
 `tests/udp_fuzz.py [--seconds S] [--seed N] [--keep FOLDER] [--input FILE]`. With a clang that has libFuzzer it draws
 the inputs, and keeps those that reach other code of the driver; else they are drawn by chance. Ends with 1 where an
@@ -121,8 +122,10 @@ def by_coverage(folder: pathlib.Path, given: argparse.Namespace) -> int:
     stats = dict(re.findall(r"stat::(\w+): +(\d+)", ran.stderr))
     reached = re.findall(r"cov: (\d+) ft: (\d+) corp: (\d+)", ran.stderr) or [("0", "0", "0")]
     print(
-        f"{stats.get('number_of_executed_units', '?')} inputs in {given.seconds:.0f} s, {reached[-1][0]} branches, {reached[-1][2]} inputs kept, "
-        f"at most {stats.get('peak_rss_mb', '?')} MB"
+        (
+            f"{stats.get('number_of_executed_units', '?')} inputs in {given.seconds:.0f} s, {reached[-1][0]} branches,"
+            f" {reached[-1][2]} inputs kept, at most {stats.get('peak_rss_mb', '?')} MB"
+        )
     )
     if ran.returncode == 0 and not any(kept.iterdir()):
         kept.rmdir()

@@ -1,7 +1,8 @@
 #!/usr/bin/env python3
 """A bad link between two commands, each in a network namespace of its own.
 
-Usage: tests/wan.py DELAY LOSS DUP REORDER [--again MS] [--serve] [--seconds S] [--packets N] [--seed K] -- COMMAND -- COMMAND
+Usage: tests/wan.py DELAY LOSS DUP REORDER [--again MS] [--serve] [--seconds S] [--packets N] [--seed K] -- COMMAND --
+COMMAND
 
 The first command has the address 10.9.0.1, the second 10.9.0.2, and their only link is this process
 (a TUN device in each namespace), so it needs root and no module of the kernel. An IP packet takes
@@ -129,7 +130,9 @@ class Carrier:
             heapq.heappush(self.waiting, (at, self.counts.went, 1 - side, packet))
         if self.link.again:
             self.counts.repeated += 1
-            heapq.heappush(self.waiting, (now + (self.link.delay + self.link.again) / 1000, self.counts.went, 1 - side, packet))
+            heapq.heappush(
+                self.waiting, (now + (self.link.delay + self.link.again) / 1000, self.counts.went, 1 - side, packet)
+            )
 
     def take(self) -> None:
         """Accepts all that the two sides sent."""

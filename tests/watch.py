@@ -253,10 +253,13 @@ def runs_of(case: str, programs: Programs, runs: int) -> str:
 
 
 def form(programs: Programs) -> str:
-    """The codec: the worked trailer of docs/formats.md, each octet of it at each value, and other versions and kinds."""
+    """The codec: the worked trailer of docs/formats.md, each octet of it at each value, and other versions and
+    kinds."""
     lines = (TOP / "docs" / "formats.md").read_text().splitlines()
     worked = bytes.fromhex(next(it for it in lines if it.startswith("a1b2c3d4")))
-    changed = [worked[:at] + bytes([value]) + worked[at + 1 :] for at in range(len(worked)) for value in range(0, 256, 5)]
+    changed = [
+        worked[:at] + bytes([value]) + worked[at + 1 :] for at in range(len(worked)) for value in range(0, 256, 5)
+    ]
     given = [worked, *changed, worked[:4] + bytes(6) + worked[10:]]
     words = [str(programs.folder / "form"), *(it.hex() for it in given)]
     said = subprocess.run(words, capture_output=True, text=True, check=True).stdout.splitlines()

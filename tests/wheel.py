@@ -81,7 +81,10 @@ def programs(python: str, folder: pathlib.Path) -> Iterator[Case]:
     example = TOP / "examples" / "hello.py"
     text = example.read_text()
     yield "docs/library.md shows examples/hello.py", text in (TOP / "docs" / "library.md").read_text(), ""
-    for name, program in (("examples/hello.py", text), ("README", block_of("README.md", "## A service and its client"))):
+    for name, program in (
+        ("examples/hello.py", text),
+        ("README", block_of("README.md", "## A service and its client")),
+    ):
         lines = program.splitlines()
         is_short = 0 < len(lines) <= MOST_LINES and max(map(len, lines)) <= 120
         yield f"{name} has at most {MOST_LINES} lines", is_short, f"{len(lines)} lines"
@@ -139,7 +142,12 @@ def installed(folder: pathlib.Path) -> Iterator[Case]:
     ran = run(python, "-c", LOADED)
     package = place / "lib" / f"python{sys.version_info[0]}.{sys.version_info[1]}" / "site-packages" / "deltat"
     driver = next((TOP / "lib").glob("libdeltat-udp.so.*")).name
-    wanted = [str(package / "__init__.py"), str(package / driver), str(package / LIBRARY.name), (TOP / "VERSION").read_text().strip()]
+    wanted = [
+        str(package / "__init__.py"),
+        str(package / driver),
+        str(package / LIBRARY.name),
+        (TOP / "VERSION").read_text().strip(),
+    ]
     yield "it imports, with the libraries of the wheel", ran.stdout.split() == wanted, ran.stdout + ran.stderr[-500:]
     yield from programs(python, folder)
     yield from refused(python, folder)

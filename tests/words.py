@@ -26,9 +26,23 @@ read 1:10>2:20 65536
 """
 MAKE_ONE = [[b"make", b"1"], [b"--", b"make", b"1"], [b"make", b"--", b"1"], [b"make", b"1", b"--"]]
 NO_COMMAND = [
-    [], [b"make"], [b"make", b"0"], [b"make", b"01"], [b"make", b"50001"], [b"make", b"1", b"1"],
-    [b"make", b"--", b"--", b"1"], [b"replay", b"5"], [b"node", b"5"], [b"audit", b"5"], [b"--help"], [b"-h"], [b"--version"], [b"\xff"],
-    [b"replay", b"\xff"], [b"make", b"\xff"], [b"\xff", b"--", b"replay"],
+    [],
+    [b"make"],
+    [b"make", b"0"],
+    [b"make", b"01"],
+    [b"make", b"50001"],
+    [b"make", b"1", b"1"],
+    [b"make", b"--", b"--", b"1"],
+    [b"replay", b"5"],
+    [b"node", b"5"],
+    [b"audit", b"5"],
+    [b"--help"],
+    [b"-h"],
+    [b"--version"],
+    [b"\xff"],
+    [b"replay", b"\xff"],
+    [b"make", b"\xff"],
+    [b"\xff", b"--", b"replay"],
 ]
 
 
@@ -62,7 +76,12 @@ def summary(rounds):
         draw = x // 65536
         taken += 1 + draw // 4 % 16
         end += 520 if draw % 4 == 2 else 20
-    return f"flow 1:10>2:20 taken {taken} acked {taken} uncertain 0 open 0 given {taken} read {taken}\nend {end}\n".encode()
+    return (
+        (
+            f"flow 1:10>2:20 taken {taken} acked {taken} uncertain 0 open 0 "
+            f"given {taken} read {taken}\nend {end}\n"
+        ).encode()
+    )
 
 
 def large(path, rounds):

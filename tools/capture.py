@@ -81,7 +81,9 @@ def read_script(text: str) -> Script:
             elif words[0] == "at" and words[2] == "send":
                 sends.append(bytes.fromhex(words[5]))
         except (ValueError, IndexError):
-            raise Refused(f"line {number} of the script isn't valid: {line[:60]}; give the script that the node ran") from None
+            raise Refused(
+                f"line {number} of the script isn't valid: {line[:60]}; give the script that the node ran"
+            ) from None
     if not text.endswith("\n"):
         text += "\n"
     return Script(text, life, node, local, peers, charges, routes, sends)
@@ -232,7 +234,15 @@ def entry(lines: list[tuple[int, list[str]]], start: int, moment: int) -> int:
     place = start - 1
     for at in range(start, len(lines)):
         when, words = lines[at]
-        if when != moment or words[0] not in MAKERS | {"put", "full", "noroute", "expired", "uncertain", "released", "renewed"}:
+        if when != moment or words[0] not in MAKERS | {
+            "put",
+            "full",
+            "noroute",
+            "expired",
+            "uncertain",
+            "released",
+            "renewed",
+        }:
             break
         if words[:2] == ["expired", "in"]:
             break
@@ -280,7 +290,13 @@ def main() -> int:
     parser.add_argument("script", help="the script of the node")
     parser.add_argument("trace", help="what `deltat trace` wrote of its run")
     parser.add_argument("--program", default=default_program(), help="the program (default: %(default)s)")
-    parser.add_argument("--start", type=float, default=0.0, metavar="SECONDS", help="when the run began, in seconds since 1970 (default: 0)")
+    parser.add_argument(
+        "--start",
+        type=float,
+        default=0.0,
+        metavar="SECONDS",
+        help="when the run began, in seconds since 1970 (default: 0)",
+    )
     given = parser.parse_args()
     if sys.stdout.isatty():
         parser.error("standard output is a terminal; add > FILE.pcapng")

@@ -91,7 +91,13 @@ def parameters(scripts: list[Script]) -> Iterator[Finding]:
         here, there = getattr(script.params, name), getattr(first.params, name)
         if here != there:
             text = f"{name} is {here} here and {there} at {first.path}:{first.params_line}"
-            yield Finding(script.path, script.params_line, "danger", text, "give all nodes the same mpl, r and a, and restart each as `again`")
+            yield Finding(
+                script.path,
+                script.params_line,
+                "danger",
+                text,
+                "give all nodes the same mpl, r and a, and restart each as `again`",
+            )
 
 
 def numbers(scripts: list[Script]) -> Iterator[Finding]:
@@ -113,7 +119,9 @@ def charges(script: Script, world: World) -> Iterator[Finding]:
     for peer in script.peers:
         if peer.charge < least:
             text = f"link {peer.link} charges {peer.charge} ms, and a packet may take {least}: {parts}{link}"
-            yield Finding(script.path, peer.line, "danger", text, f"set its charge to the link's longest delay and {own} ms")
+            yield Finding(
+                script.path, peer.line, "danger", text, f"set its charge to the link's longest delay and {own} ms"
+            )
 
 
 def shared(script: Script) -> Iterator[Finding]:
@@ -123,8 +131,13 @@ def shared(script: Script) -> Iterator[Finding]:
         first = seen.setdefault(peer.address, peer)
         if first is not peer:
             low = first.charge < peer.charge
-            text = f"link {peer.link} has the address of link {first.link}, so packets from there are charged {first.charge} ms"
-            yield Finding(script.path, peer.line, "danger" if low else "warning", text, "give each link an address of its own")
+            text = (
+                f"link {peer.link} has the address of link {first.link}, so packets from there are charged"
+                f" {first.charge} ms"
+            )
+            yield Finding(
+                script.path, peer.line, "danger" if low else "warning", text, "give each link an address of its own"
+            )
 
 
 def ends(scripts: list[Script], script: Script) -> Iterator[Finding]:
@@ -132,10 +145,18 @@ def ends(scripts: list[Script], script: Script) -> Iterator[Finding]:
     for peer in script.peers:
         other = neighbour(scripts, script, peer)
         if other is None:
-            yield Finding(script.path, peer.line, "warning", f"no script has a node at {peer.address}", "give that node's script too, or correct the address")
+            yield Finding(
+                script.path,
+                peer.line,
+                "warning",
+                f"no script has a node at {peer.address}",
+                "give that node's script too, or correct the address",
+            )
         elif way_back(other, script) is None:
             text = f"{other.path} has no peer at {script.local}, so node {other.me} drops packets from here"
-            yield Finding(script.path, peer.line, "warning", text, f"give it a line `peer L {script.local} CHARGE PACE`")
+            yield Finding(
+                script.path, peer.line, "warning", text, f"give it a line `peer L {script.local} CHARGE PACE`"
+            )
 
 
 def locals_of(scripts: list[Script]) -> Iterator[Finding]:
@@ -171,7 +192,13 @@ def walk(scripts: list[Script], start: Script, to: int) -> tuple[Path | None, Fi
         if after.me == to:
             return path, None
         if after in seen:
-            return None, Finding(start.path, line, "warning", f"packets for node {to} loop through node {after.me}", "change the routes so that they end there")
+            return None, Finding(
+                start.path,
+                line,
+                "warning",
+                f"packets for node {to} loop through node {after.me}",
+                "change the routes so that they end there",
+            )
         seen.append(after)
         at = after
 
@@ -179,7 +206,10 @@ def walk(scripts: list[Script], start: Script, to: int) -> tuple[Path | None, Fi
 def lives(start: Script, to: int, path: Path) -> Iterator[Finding]:
     """A packet lives long enough for its path."""
     if path.life() >= start.params.mpl:
-        text = f"{len(path.charges)} links to node {to} charge {sum(path.charges)} ms, the stations {len(path.charges)} or more, and mpl is {start.params.mpl}"
+        text = (
+            f"{len(path.charges)} links to node {to} charge {sum(path.charges)} ms, the stations {len(path.charges)} or"
+            f" more, and mpl is {start.params.mpl}"
+        )
         yield Finding(start.path, start.route(to).line, "warning", text, "give all nodes a greater mpl")
 
 
@@ -188,14 +218,22 @@ def shelved(start: Script, other: Script, path: Path) -> Iterator[Finding]:
     millisecond more that this costs."""
     left = start.params.mpl - path.life()
     if other.shelf and 0 < left < start.params.rto + 2:
-        text = f"packets for node {other.me} have {left} ms of lifetime left for its shelf, and a lost one before them is resent after {start.params.rto}"
-        yield Finding(start.path, start.route(other.me).line, "warning", text, "give all nodes an mpl that is greater by two rto")
+        text = (
+            f"packets for node {other.me} have {left} ms of lifetime left for its shelf, and a lost one before them is"
+            f" resent after {start.params.rto}"
+        )
+        yield Finding(
+            start.path, start.route(other.me).line, "warning", text, "give all nodes an mpl that is greater by two rto"
+        )
 
 
 def windows(start: Script, other: Script) -> Iterator[Finding]:
     """A new flow sends no more than there is room for at the other node."""
     if start.params.window > other.params.rcap:
-        text = f"window is {start.params.window}, and node {other.me} has room for {other.params.rcap} octets ({other.path}:{other.params_line})"
+        text = (
+            f"window is {start.params.window}, and node {other.me} has room for {other.params.rcap} octets"
+            f" ({other.path}:{other.params_line})"
+        )
         yield Finding(start.path, start.params_line, "warning", text, "set window to at most the other's rcap")
 
 
@@ -204,8 +242,17 @@ def carries(start: Script, other: Script, path: Path, back: Path, world: World) 
     told = world.round_trip is not None
     trip = world.round_trip if told else path.life() + back.life()
     most = par.least_ceiling(start.params, other.params, trip, path.pace())
-    text = f"a flow to node {other.me} carries at most {par.rate_text(most.rate)} by {most.by}, if a round trip is {trip:g} ms"
-    return Finding(start.path, start.route(other.me).line, "note", text, "" if told else "that is the longest; give --round-trip for a usual one")
+    text = (
+        f"a flow to node {other.me} carries at most {par.rate_text(most.rate)} by {most.by}, if a round trip is"
+        f" {trip:g} ms"
+    )
+    return Finding(
+        start.path,
+        start.route(other.me).line,
+        "note",
+        text,
+        "" if told else "that is the longest; give --round-trip for a usual one",
+    )
 
 
 def passes_on(scripts: list[Script]) -> set[tuple[str, int]]:
@@ -236,7 +283,13 @@ def paths(scripts: list[Script], world: World) -> Iterator[Finding]:
         for route in start.routes:
             other = by_number.get(route.to)
             if other is None:
-                yield Finding(start.path, route.line, "warning", f"no script has node {route.to}", "give that node's script too, or correct the number")
+                yield Finding(
+                    start.path,
+                    route.line,
+                    "warning",
+                    f"no script has node {route.to}",
+                    "give that node's script too, or correct the number",
+                )
                 continue
             path, wrong = walk(scripts, start, route.to)
             back, wrong_back = walk(scripts, other, start.me)
@@ -258,22 +311,35 @@ def commands(script: Script) -> Iterator[Finding]:
     """What is sent has a route."""
     for to, command in {it.flow.target: it for it in reversed(script.commands) if it.name == "send"}.items():
         if script.route(to) is None:
-            yield Finding(script.path, command.line, "warning", f"there is no route to node {to}", f"add a line `route {to} L`")
+            yield Finding(
+                script.path, command.line, "warning", f"there is no route to node {to}", f"add a line `route {to} L`"
+            )
 
 
 def segments(script: Script, world: World) -> Iterator[Finding]:
     """A segment with its headers fits into one packet of the link."""
     size = script.params.seg + par.HEADERS
     if size > world.mtu:
-        text = f"a segment of {script.params.seg} octets makes packets of {size}, and the MTU is {world.mtu}, so they are sent in fragments, which may be joined wrongly"
-        yield Finding(script.path, script.params_line, "warning", text, f"set seg to at most {max(1, world.mtu - par.HEADERS)}")
+        text = (
+            f"a segment of {script.params.seg} octets makes packets of {size}, and the MTU is {world.mtu}, so they are"
+            " sent in fragments, which may be joined wrongly"
+        )
+        yield Finding(
+            script.path, script.params_line, "warning", text, f"set seg to at most {max(1, world.mtu - par.HEADERS)}"
+        )
 
 
 def findings(scripts: list[Script], world: World) -> list[Finding]:
     """All that is found, in the order of the scripts and their lines."""
     found: list[Finding] = [*parameters(scripts), *numbers(scripts), *locals_of(scripts), *paths(scripts, world)]
     for script in scripts:
-        found += [*charges(script, world), *shared(script), *ends(scripts, script), *segments(script, world), *commands(script)]
+        found += [
+            *charges(script, world),
+            *shared(script),
+            *ends(scripts, script),
+            *segments(script, world),
+            *commands(script),
+        ]
     place = {it.path: i for i, it in enumerate(scripts)}
     return sorted(dict.fromkeys(found), key=lambda it: (place[it.path], it.line))
 
@@ -287,17 +353,34 @@ def read_all(names: Iterable[str]) -> tuple[list[Script], list[str]]:
         except OSError as why:
             wrong.append(f"{name}: error: {why.strerror}; give the path of a script")
         except Refused as why:
-            wrong.append(f"{name}:{why.line}: error: {why.fault}; the program refuses this line; docs/formats.md explains the fault")
+            wrong.append(
+                f"{name}:{why.line}: error: {why.fault}; the program refuses this line; docs/formats.md explains the"
+                " fault"
+            )
     return scripts, wrong
 
 
 def arguments() -> argparse.Namespace:
     it = argparse.ArgumentParser(description=__doc__, formatter_class=argparse.RawDescriptionHelpFormatter)
     it.add_argument("scripts", metavar="SCRIPT", nargs="+", help="the script of a node")
-    it.add_argument("--drift", type=number(0, 100_000), default=100.0, help="how wrong a clock may be, in parts in a million (100)")
-    it.add_argument("--mtu", type=number(1, 65_535, int), default=1500, help="the least MTU of the links, in octets (1500)")
-    it.add_argument("--delay", type=number(0, par.DAY), default=0.0, help="the longest that a packet is under way on a link, in ms, where it is known (0)")
-    it.add_argument("--round-trip", type=number(0, par.DAY), default=None, help="a usual round trip in ms, for what a flow can carry")
+    it.add_argument(
+        "--drift", type=number(0, 100_000), default=100.0, help="how wrong a clock may be, in parts in a million (100)"
+    )
+    it.add_argument(
+        "--mtu", type=number(1, 65_535, int), default=1500, help="the least MTU of the links, in octets (1500)"
+    )
+    it.add_argument(
+        "--delay",
+        type=number(0, par.DAY),
+        default=0.0,
+        help="the longest that a packet is under way on a link, in ms, where it is known (0)",
+    )
+    it.add_argument(
+        "--round-trip",
+        type=number(0, par.DAY),
+        default=None,
+        help="a usual round trip in ms, for what a flow can carry",
+    )
     return it.parse_args()
 
 

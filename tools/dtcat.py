@@ -88,7 +88,10 @@ def talk(end: live.Live, asked: argparse.Namespace) -> int:
         if time.monotonic() >= until:
             break
     if end.uncertain:
-        print(f"dtcat.py: {end.uncertain} of {end.queued} octets are uncertain: each was delivered once or not at all", file=sys.stderr)
+        print(
+            f"dtcat.py: {end.uncertain} of {end.queued} octets are uncertain: each was delivered once or not at all",
+            file=sys.stderr,
+        )
     return 1 if end.uncertain else 0
 
 

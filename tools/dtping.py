@@ -50,7 +50,10 @@ def ping(end: live.Live, asked: argparse.Namespace) -> int:
         found = answered(end, bytes(asked.size))
         if found is not None:
             took.append(1000 * found)
-        print(f"{number_of}: {asked.size} octets, " + (f"{took[-1]:.1f} ms" if found is not None else "uncertain"), flush=True)
+        print(
+            f"{number_of}: {asked.size} octets, " + (f"{took[-1]:.1f} ms" if found is not None else "uncertain"),
+            flush=True,
+        )
         if number_of < asked.count:
             end.udp.run_for(max(asked.interval - (time.monotonic() - begun), 0))
     lost = asked.count - len(took)

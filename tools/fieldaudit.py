@@ -107,7 +107,9 @@ def follow_flow(order: Order, of: Flow, fits: dict[Place, tuple[int, float]]) ->
     follow_acknowledgements(order, of, sending, receiving, accepted)
 
 
-def follow_acknowledgements(order: Order, of: Flow, sending: Sending, receiving: Receiving, accepted: dict[int, int]) -> None:
+def follow_acknowledgements(
+    order: Order, of: Flow, sending: Sending, receiving: Receiving, accepted: dict[int, int]
+) -> None:
     """Each acknowledgement that was used was sent, and what it acknowledges should have been accepted."""
     last: dict[int, int] = {}
     for place, segment in enumerate(sending.segments):
@@ -117,7 +119,10 @@ def follow_acknowledgements(order: Order, of: Flow, sending: Sending, receiving:
             last[segment.settled] = max(last.get(segment.settled, -1), accepted[place])
             order.wish((of.target, accepted[place]), (of.source, segment.settled))
         else:
-            text = f"{order.told((of.source, segment.settled))}: octets that were sent at {order.entry((of.source, segment.packets[0].line)).place()} were never accepted"
+            text = (
+                f"{order.told((of.source, segment.settled))}: octets that were sent at"
+                f" {order.entry((of.source, segment.packets[0].line)).place()} were never accepted"
+            )
             order.broken.append(text)
     lines: dict[tuple[int, int], list[int]] = {}
     for it in receiving.told:
@@ -125,7 +130,10 @@ def follow_acknowledgements(order: Order, of: Flow, sending: Sending, receiving:
     for it in sending.settled:
         found = lines.get((it.number, it.window))
         if not found:
-            order.notes.append(f"{order.told((of.source, it.line))}: no log has that acknowledgement, of number {it.number} and window {it.window}")
+            order.notes.append(
+                f"{order.told((of.source, it.line))}: no log has that acknowledgement, of number {it.number} and window"
+                f" {it.window}"
+            )
         elif it.count:
             behind = last.get(it.line, -1)
             order.came((of.target, next((one for one in found if one >= behind), found[-1])), (of.source, it.line))
@@ -176,8 +184,11 @@ def clocks(order: Order) -> dict[Place, float]:
         back = order.ahead.get((other, one))
         if back and one < other and to[0] + back[0] < -1:
             order.notes.append(
-                f"the clocks of node {one[0]} and node {other[0]} don't fit by {-to[0] - back[0]} ms: {order.told(to[1])} before {order.told(to[2])}, "
-                f"and {order.told(back[1])} before {order.told(back[2])}; one stood still, or goes at another rate"
+                (
+                    f"the clocks of node {one[0]} and node {other[0]} don't fit by {-to[0] - back[0]} ms:"
+                    f" {order.told(to[1])} before {order.told(to[2])}, and {order.told(back[1])} before"
+                    f" {order.told(back[2])}; one stood still, or goes at another rate"
+                )
             )
     return added
 
@@ -190,7 +201,9 @@ class Merging:
         self.order, self.added = order, clocks(order)
         self.kinds = (order.forced, order.wished, order.handy)
         # for each line how many stand before it and aren't taken, and those that stand behind it
-        self.wait = {place: sum(len(kind.get(place, ())) for kind in self.kinds) for kind in self.kinds for place in kind}
+        self.wait = {
+            place: sum(len(kind.get(place, ())) for kind in self.kinds) for kind in self.kinds for place in kind
+        }
         self.behind: dict[Place, list[Place]] = {}
         for kind in self.kinds:
             for then, firsts in kind.items():
@@ -218,10 +231,15 @@ class Merging:
         if not stuck:
             return None
         left = lambda kind, place: sorted(it for it in kind.get(place, ()) if it not in self.done)
-        place = min(stuck, key=lambda it: (bool(left(self.order.forced, it)), bool(left(self.order.wished, it)), self.moment(it)))
+        place = min(
+            stuck,
+            key=lambda it: (bool(left(self.order.forced, it)), bool(left(self.order.wished, it)), self.moment(it)),
+        )
         rests = left(self.order.forced, place) or left(self.order.wished, place)
         if rests:
-            self.order.broken.append(f"{self.order.told(place)}: it stands before what it rests on, {self.order.told(rests[0])}")
+            self.order.broken.append(
+                f"{self.order.told(place)}: it stands before what it rests on, {self.order.told(rests[0])}"
+            )
         self.wait[place] = 0
         return place
 
@@ -269,7 +287,10 @@ def order_of(nodes: dict[int, Node]) -> tuple[Order, set[Flow]]:
         for before, run in zip(node.runs, node.runs[1:]):
             ended = "stopped" if before.ended else "ended without its stop"
             first = run.entries[0]
-            order.notes.append(f"{first.place()}: node {node.number} starts once more, which {ended} in {before.entries[-1].path}; a log doesn't show whether as `again`")
+            order.notes.append(
+                f"{first.place()}: node {node.number} starts once more, which {ended} in {before.entries[-1].path}; a"
+                " log doesn't show whether as `again`"
+            )
     return order, missing
 
 
@@ -298,7 +319,9 @@ def arguments() -> argparse.Namespace:
     it = argparse.ArgumentParser(description=__doc__, formatter_class=argparse.RawDescriptionHelpFormatter)
     it.add_argument("logs", metavar="LOG", nargs="+", help="the log of a node")
     it.add_argument("--deltat", metavar="PROGRAM", help="the program, which judges the merged log")
-    it.add_argument("--out", metavar="FILE", help="where the merged log goes; without it and without --deltat to standard output")
+    it.add_argument(
+        "--out", metavar="FILE", help="where the merged log goes; without it and without --deltat to standard output"
+    )
     return it.parse_args()
 
 

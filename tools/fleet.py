@@ -30,8 +30,8 @@ The description:
 
 A packet travels to each node by the path of the least delay. The parameters, the charges and the routes follow from the
 delays; host names are looked up once, here. FOLDER gets NAME.script for each node, and network.schedule for
-`deltat replay`, with the sends and reads, and no arrivals. The last line of the output is the command of tools/doctor.py
-for these scripts.
+`deltat replay`, with the sends and reads, and no arrivals. The last line of the output is the command of
+tools/doctor.py for these scripts.
 
 Ends with 0, or with 2 if the description can't be read or has a fault."""
 import argparse
@@ -53,8 +53,21 @@ WAIT = 2
 MOST_LINKS = 128
 # the packets that nodes keep which came too early, and how often the lost one before them may go again meanwhile
 SHELF, SHELVED = 64, 2
-NETWORK = {"round_trip": (float, 0, par.DAY), "drift": (float, 0, 100_000), "tries": (int, 1, 1000), "room": (int, 1, par.MOST_ROOM), "shelf": (int, 0, 64), "stop": (int, 0, 2**32 - 1)}
-LINK = {"delay": (float, 0, par.DAY), "mtu": (int, 1, 65_535), "drift": (float, 0, 100_000), "pace": (int, 0, par.DAY), "queue": (int, 0, 64)}
+NETWORK = {
+    "round_trip": (float, 0, par.DAY),
+    "drift": (float, 0, 100_000),
+    "tries": (int, 1, 1000),
+    "room": (int, 1, par.MOST_ROOM),
+    "shelf": (int, 0, 64),
+    "stop": (int, 0, 2**32 - 1),
+}
+LINK = {
+    "delay": (float, 0, par.DAY),
+    "mtu": (int, 1, 65_535),
+    "drift": (float, 0, 100_000),
+    "pace": (int, 0, par.DAY),
+    "queue": (int, 0, 64),
+}
 
 
 class Wrong(Exception):
@@ -111,8 +124,17 @@ def checked(where: str, table: dict[str, Any], rules: dict[str, tuple], others: 
         if key not in rules:
             raise Wrong(f"{where}: unknown key: {key}; the keys are {', '.join([*sorted(others), *rules])}")
         kind, least, most = rules[key]
-        if isinstance(value, bool) or not isinstance(value, (int, float)) or kind is int and not isinstance(value, int) or not least <= value <= most:
-            raise Wrong(f"{where}: {key} is {value}; it must be {'a whole number' if kind is int else 'a number'} from {least} to {most}")
+        if (
+            isinstance(value, bool)
+            or not isinstance(value, (int, float))
+            or kind is int
+            and not isinstance(value, int)
+            or not least <= value <= most
+        ):
+            raise Wrong(
+                f"{where}: {key} is {value}; it must be {'a whole number' if kind is int else 'a number'} from"
+                f" {least} to {most}"
+            )
     return table
 
 
@@ -152,7 +174,15 @@ def link_of(place: int, table: Any, wishes: dict[str, Any], nodes: dict[str, Nod
         if name not in nodes:
             raise Wrong(f"{where}: unknown node: {name!r}; the nodes are {', '.join(nodes)}")
     drift = table.get("drift", wishes.get("drift", 100))
-    return Link(place, (ends[0], ends[1]), table["delay"], drift, table.get("mtu", 1500), table.get("pace", 0), table.get("queue", 8))
+    return Link(
+        place,
+        (ends[0], ends[1]),
+        table["delay"],
+        drift,
+        table.get("mtu", 1500),
+        table.get("pace", 0),
+        table.get("queue", 8),
+    )
 
 
 def network_of(text: bytes) -> Network:
@@ -164,7 +194,9 @@ def network_of(text: bytes) -> Network:
     unknown = set(top) - {"network", "node", "link"}
     if unknown:
         raise Wrong(f"unknown table: {sorted(unknown)[0]}; the tables are [network], [[node]] and [[link]]")
-    if not all(isinstance(top.get(part, []), list) for part in ("node", "link")) or not isinstance(top.get("network", {}), dict):
+    if not all(isinstance(top.get(part, []), list) for part in ("node", "link")) or not isinstance(
+        top.get("network", {}), dict
+    ):
         raise Wrong("a table has the wrong form; write one [network], and [[node]] and [[link]] for each node and link")
     wishes = checked("network", top.get("network", {}), NETWORK, set())
     nodes: dict[str, Node] = {}
@@ -172,7 +204,10 @@ def network_of(text: bytes) -> Network:
         it = node_of(place, table)
         twice = next((one for one in nodes.values() if one.name == it.name or one.number == it.number), None)
         if twice:
-            raise Wrong(f"node {place + 1}: {it.name!r}, number {it.number}, has the name or number of {twice.name!r}, number {twice.number}; give it its own")
+            raise Wrong(
+                f"node {place + 1}: {it.name!r}, number {it.number}, has the name or number of {twice.name!r}, number"
+                f" {twice.number}; give it its own"
+            )
         nodes[it.name] = it
     links = [link_of(place, table, wishes, nodes) for place, table in enumerate(top.get("link", []))]
     if not nodes or not links:
@@ -182,7 +217,9 @@ def network_of(text: bytes) -> Network:
     for name in nodes:
         others = [it.other(name) for it in links if name in it.ends]
         if len(set(others)) < len(others):
-            raise Wrong(f"node {name!r} has two links to one node; packets would count as those of the first, so leave one out")
+            raise Wrong(
+                f"node {name!r} has two links to one node; packets would count as those of the first, so leave one out"
+            )
     return Network(wishes, nodes, links)
 
 
@@ -199,7 +236,9 @@ def resolve(nodes: dict[str, Node]) -> None:
             raise Wrong(f"node {it.name!r}: host {host!r} isn't found: {why}") from why
         it.place = scripts.Address(found[0][4][0], int(port))
         if it.place in seen:
-            raise Wrong(f"node {it.name!r}: {it.place} is the address of node {seen[it.place]!r} too; give each node its own")
+            raise Wrong(
+                f"node {it.name!r}: {it.place} is the address of node {seen[it.place]!r} too; give each node its own"
+            )
         seen[it.place] = it.name
 
 
@@ -243,7 +282,9 @@ def plan_of(network: Network) -> Plan:
     longest = max(sum(link.delay for link in way) for way in paths)
     wishes = network.wishes
     mtu, shelved = min(link.mtu for link in network.links), SHELVED if wishes.get("shelf", SHELF) else 0
-    wanted = par.Wishes(wishes.get("round_trip", 2 * longest), wishes.get("tries", 5), mtu, wishes.get("room", par.MOST_ROOM), shelved)
+    wanted = par.Wishes(
+        wishes.get("round_trip", 2 * longest), wishes.get("tries", 5), mtu, wishes.get("room", par.MOST_ROOM), shelved
+    )
     try:
         return Plan(network, par.suited([[link.hop() for link in way] for way in paths], wanted), routes)
     except par.Unsuited as why:
@@ -253,7 +294,12 @@ def plan_of(network: Network) -> Plan:
 def script_of(plan: Plan, node: Node) -> str:
     """The script of a node."""
     network, stop = plan.network, plan.network.wishes.get("stop", 60_000)
-    lines = [f"# Node {node.number}, {node.name}: made by tools/fleet.py", plan.params.line(), f"me {node.number} {node.start}", f"local {node.place}"]
+    lines = [
+        f"# Node {node.number}, {node.name}: made by tools/fleet.py",
+        plan.params.line(),
+        f"me {node.number} {node.start}",
+        f"local {node.place}",
+    ]
     for link in network.links:
         if node.name in link.ends:
             other = network.nodes[link.other(node.name)]
@@ -312,7 +358,9 @@ def files_of(network: Network) -> dict[str, str]:
             made[node.name] = scripts.parse(name, files[name].encode())
         except scripts.Refused as why:
             line = files[name].split("\n")[why.line - 1]
-            raise Wrong(f"node {node.name!r}: the line `{line}` is refused: {why.fault}; docs/formats.md explains the fault") from why
+            raise Wrong(
+                f"node {node.name!r}: the line `{line}` is refused: {why.fault}; docs/formats.md explains the fault"
+            ) from why
     files["network.schedule"] = schedule_of(plan, made)
     return files
 
@@ -325,7 +373,9 @@ def doctor_words(network: Network) -> str:
 def main() -> int:
     it = argparse.ArgumentParser(description=__doc__, formatter_class=argparse.RawDescriptionHelpFormatter)
     it.add_argument("network", metavar="NETWORK.toml", help="the description")
-    it.add_argument("--out", metavar="FOLDER", required=True, help="where the files go; the folder is made where it is missing")
+    it.add_argument(
+        "--out", metavar="FOLDER", required=True, help="where the files go; the folder is made where it is missing"
+    )
     asked = it.parse_args()
     try:
         network = network_of(Path(asked.network).read_bytes())
@@ -334,7 +384,10 @@ def main() -> int:
         for name, text in files.items():
             (Path(asked.out) / name).write_text(text)
     except OSError as why:
-        print(f"fleet.py: {why.filename}: {why.strerror}; give a description, and a folder that can be written", file=sys.stderr)
+        print(
+            f"fleet.py: {why.filename}: {why.strerror}; give a description, and a folder that can be written",
+            file=sys.stderr,
+        )
         return 2
     except Wrong as why:
         print(f"{asked.network}: {why}", file=sys.stderr)

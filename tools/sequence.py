@@ -80,8 +80,16 @@ def headless(path: str, *options: str) -> subprocess.CompletedProcess[str]:
     if not program:
         raise Refused("Chromium isn't installed, and --svg needs it; install it (Debian: chromium)")
     with tempfile.TemporaryDirectory() as profile:
-        command = [program, "--headless", "--no-sandbox", "--disable-gpu", "--hide-scrollbars", f"--user-data-dir={profile}",
-                   *options, pathlib.Path(path).absolute().as_uri()]
+        command = [
+            program,
+            "--headless",
+            "--no-sandbox",
+            "--disable-gpu",
+            "--hide-scrollbars",
+            f"--user-data-dir={profile}",
+            *options,
+            pathlib.Path(path).absolute().as_uri(),
+        ]
         return subprocess.run(command, capture_output=True, text=True, check=False, timeout=120)
 
 
@@ -112,7 +120,11 @@ def main() -> int:
     parser = argparse.ArgumentParser(description=__doc__, formatter_class=argparse.RawDescriptionHelpFormatter)
     parser.add_argument("files", nargs="+", metavar="FILE", help="a schedule and its log, or the logs of nodes")
     parser.add_argument("--svg", action="store_true", help="write the picture alone, drawn by a Chromium")
-    parser.add_argument("--program", default=default_program(), help="the program, for a schedule without its log (default: %(default)s)")
+    parser.add_argument(
+        "--program",
+        default=default_program(),
+        help="the program, for a schedule without its log (default: %(default)s)",
+    )
     given = parser.parse_args()
     try:
         page = page_of(texts_of(given.files, given.program))

@@ -55,7 +55,15 @@ class Network:
     def script(self, me: int, local: str, other: tuple[int, str], commands: list[str]) -> str:
         """The script of one of them."""
         way = "again" if me == SERVER and "AGAIN" in os.environ else "first"
-        head = [self.params.line(), f"me {me} {way}", f"local {local}", f"peer 1 {other[1]} {self.charge} 0", f"route {other[0]} 1", "shelf 64", "go"]
+        head = [
+            self.params.line(),
+            f"me {me} {way}",
+            f"local {local}",
+            f"peer 1 {other[1]} {self.charge} 0",
+            f"route {other[0]} 1",
+            "shelf 64",
+            "go",
+        ]
         return "".join(f"{it}\n" for it in [*head, *commands])
 
 
@@ -68,8 +76,14 @@ def started(program: str, script: str) -> "subprocess.Popen[str]":
 
 def serve(network: Network, program: str, here: str, log: str) -> None:
     """Runs the server. Where a log is wanted it reads the first flow, and each message's first octets are a line."""
-    reads = [f"at {at} read {CLIENT}:1>{SERVER}:{SERVICE} 65536" for at in range(READ_EACH, 6_000, READ_EACH)] if log != "-" else []
-    node = started(program, network.script(SERVER, here, (CLIENT, f"10.9.0.2:{CLIENT_PORT}"), [*reads, f"at {LONGEST} stop"]))
+    reads = (
+        [f"at {at} read {CLIENT}:1>{SERVER}:{SERVICE} 65536" for at in range(READ_EACH, 6_000, READ_EACH)]
+        if log != "-"
+        else []
+    )
+    node = started(
+        program, network.script(SERVER, here, (CLIENT, f"10.9.0.2:{CLIENT_PORT}"), [*reads, f"at {LONGEST} stop"])
+    )
     for line in node.stdout:
         words = line.split()
         if log != "-" and words[2:3] == ["read"] and "b" in words[4]:
@@ -81,10 +95,15 @@ def sends(what: str, count: int, octets: int, seconds: float) -> list[str]:
     """The commands of a client."""
     gap = SPREAD / count if what == "flows" else (seconds * 1000 - FIRST_MOMENT) * 0.9 / count
     bodies = [(os.urandom(8) + bytes(octets))[:octets].hex() for _ in range(count)]
-    return [f"at {FIRST_MOMENT + int(at * gap)} send {CLIENT}:{at + 1}>{SERVER}:{SERVICE} be {it}" for at, it in enumerate(bodies)]
+    return [
+        f"at {FIRST_MOMENT + int(at * gap)} send {CLIENT}:{at + 1}>{SERVER}:{SERVICE} be {it}"
+        for at, it in enumerate(bodies)
+    ]
 
 
-def watched(node: "subprocess.Popen[str]", octets: int, count: int, until: float) -> tuple[dict[str, float], dict[str, float]]:
+def watched(
+    node: "subprocess.Popen[str]", octets: int, count: int, until: float
+) -> tuple[dict[str, float], dict[str, float]]:
     """When each flow's message was taken and when all of it was acknowledged, by the lines of the log as they come."""
     took: dict[str, float] = {}
     whole: dict[str, float] = {}

@@ -29,8 +29,24 @@ def prepare(folder: pathlib.Path) -> None:
     """Makes the key, the certificate and the page that answers."""
     folder.mkdir(exist_ok=True)
     if not (folder / "certificate").exists():
-        words = ["openssl", "req", "-x509", "-newkey", "ec", "-pkeyopt", "ec_paramgen_curve:prime256v1", "-nodes", "-subj", "/CN=peer",
-                 "-days", "2", "-keyout", str(folder / "key"), "-out", str(folder / "certificate")]
+        words = [
+            "openssl",
+            "req",
+            "-x509",
+            "-newkey",
+            "ec",
+            "-pkeyopt",
+            "ec_paramgen_curve:prime256v1",
+            "-nodes",
+            "-subj",
+            "/CN=peer",
+            "-days",
+            "2",
+            "-keyout",
+            str(folder / "key"),
+            "-out",
+            str(folder / "certificate"),
+        ]
         subprocess.run(words, check=True, capture_output=True)
     (folder / "pages").mkdir(exist_ok=True)
     (folder / "pages" / "answer").write_bytes(bytes(100))
@@ -39,7 +55,15 @@ def prepare(folder: pathlib.Path) -> None:
 def client(words: list[str], folder: pathlib.Path, there: list[str], seconds: float) -> tuple[list[int], float]:
     """The moments at which streams ended, in ms, and the seconds of the process."""
     begun = time.monotonic()
-    command = [CLIENT, "--no-quic-dump", "--no-http-dump", "--exit-on-all-streams-close", *words, *there, "https://peer/answer"]
+    command = [
+        CLIENT,
+        "--no-quic-dump",
+        "--no-http-dump",
+        "--exit-on-all-streams-close",
+        *words,
+        *there,
+        "https://peer/answer",
+    ]
     try:
         ran = subprocess.run(command, cwd=folder, capture_output=True, timeout=max(seconds, 0.1), check=False)
         said = ran.stdout + ran.stderr
@@ -67,8 +91,13 @@ def ask(there: list[str], what: str, numbers: list[str], folder: pathlib.Path) -
         if octets > MOST_TOLD:
             begun = time.monotonic()
             try:
-                subprocess.run([CLIENT, "-q", "--exit-on-all-streams-close", *upload, *there, "https://peer/answer"], cwd=folder,
-                               capture_output=True, timeout=left, check=True)
+                subprocess.run(
+                    [CLIENT, "-q", "--exit-on-all-streams-close", *upload, *there, "https://peer/answer"],
+                    cwd=folder,
+                    capture_output=True,
+                    timeout=left,
+                    check=True,
+                )
             except subprocess.SubprocessError:
                 break
             print(f"done {octets} {time.monotonic() - begun:.6f}", flush=True)
@@ -83,8 +112,21 @@ def main() -> None:
     folder = pathlib.Path(words[-1]).resolve()
     prepare(folder)
     if form == "serve":
-        subprocess.run([SERVER, "-q", "-d", str(folder / "pages"), address, port, str(folder / "key"), str(folder / "certificate")],
-                       stdout=subprocess.DEVNULL, stderr=subprocess.DEVNULL, check=False)
+        subprocess.run(
+            [
+                SERVER,
+                "-q",
+                "-d",
+                str(folder / "pages"),
+                address,
+                port,
+                str(folder / "key"),
+                str(folder / "certificate"),
+            ],
+            stdout=subprocess.DEVNULL,
+            stderr=subprocess.DEVNULL,
+            check=False,
+        )
     else:
         ask([address, port], words[0], words[1:4], folder)
 

@@ -1,9 +1,9 @@
 """Builds the wheel of the package `deltat`, with the shared libraries inside: release/wheel.sh and pip call it.
 
-The wheel has the package, libdeltat.so and libdeltat-udp.so of lib/ and the metadata of pyproject.toml, and is the same, octet for octet,
-whenever it is made of the same files. It needs nothing but Python's standard library. The version is that of the file
-VERSION. Wheels are tagged for the machine that builds them, as py3-none-linux_x86_64: the library is compiled code, but
-has no part of Python's own interface."""
+The wheel has the package, libdeltat.so and libdeltat-udp.so of lib/ and the metadata of pyproject.toml, and is the
+same, octet for octet, whenever it is made of the same files. It needs nothing but Python's standard library. The
+version is that of the file VERSION. Wheels are tagged for the machine that builds them, as py3-none-linux_x86_64: the
+library is compiled code, but has no part of Python's own interface."""
 
 from __future__ import annotations
 

@@ -1,10 +1,11 @@
 #!/usr/bin/env python3
-"""Between a board's UART (a unix socket of QEMU) and a node over UDP, or one over another line. Both ways it loses, repeats
-and delays datagrams, and on the way to a line it changes octets.
+"""Between a board's UART (a unix socket of QEMU) and a node over UDP, or one over another line. Both ways it loses,
+repeats and delays datagrams, and on the way to a line it changes octets.
 
 `bridge.py SOCKET LOCAL-PORT NODE-PORT [--loss PART] [--seconds S] [--seed N]`: a PART of the datagrams is lost, half as
-many arrive twice, a third as many are spoilt. Each is under way for at most 80 ms, so a charge of 200 ms covers a bridge
-that is held up for 100. Datagrams are stuffed and have their CRC-32, as in line.c. At its end it prints what it did."""
+many arrive twice, a third as many are spoilt. Each is under way for at most 80 ms, so a charge of 200 ms covers a
+bridge that is held up for 100. Datagrams are stuffed and have their CRC-32, as in line.c. At its end it prints what it
+did."""
 from __future__ import annotations
 
 import argparse
@@ -52,8 +53,8 @@ def unstuff(octets: bytes) -> bytes:
 
 
 class Line:
-    """Datagrams on a line: each stuffed with its CRC-32 behind it, between octets 0. The file is a socket or a terminal, and
-    stays its owner's."""
+    """Datagrams on a line: each stuffed with its CRC-32 behind it, between octets 0. The file is a socket or a
+    terminal, and stays its owner's."""
 
     def __init__(self, file: int) -> None:
         self.file, self.had, self.spoilt = file, b"", 0
@@ -136,8 +137,8 @@ class Bridge:
         self.ends[to].put(datagram, self.chance if is_spoilt else None)
 
     def watch(self) -> None:
-        """Counts when the bridge or the board was held up, so that a datagram may have been under way for longer than the
-        charge covers, and nobody sees it."""
+        """Counts when the bridge or the board was held up, so that a datagram may have been under way for longer than
+        the charge covers, and nobody sees it."""
         now = time.monotonic()
         if self.board.unread() == 0:
             self.read_at = now
@@ -147,8 +148,8 @@ class Bridge:
         self.turned_at = now
 
     def turn(self) -> bool:
-        """Waits for what arrives, hands over what is due; whether both ends are still there. What it would hand over too
-        late, since it was held up itself, is lost: the charge doesn't cover more."""
+        """Waits for what arrives, hands over what is due; whether both ends are still there. What it would hand over
+        too late, since it was held up itself, is lost: the charge doesn't cover more."""
         self.watch()
         wait = max(self.late[0][0] - time.monotonic(), 0) if self.late else MOST_WAIT
         ready, _, _ = select.select(self.ends, [], [], min(wait, MOST_WAIT))

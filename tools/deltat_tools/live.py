@@ -37,14 +37,49 @@ def add_words(it: argparse.ArgumentParser) -> None:
     """The words of a tool that runs a node."""
     it.add_argument("own", metavar="OWN", type=end, help="this node: NODE@HOST:PORT, or NODE@PORT on 127.0.0.1")
     it.add_argument("peer", metavar="PEER", type=end, help="the other one")
-    it.add_argument("--delay", type=number(0, par.DAY), default=50, help="the longest delay of the link, in ms (50): the same at both ends")
-    it.add_argument("--round-trip", type=number(0, par.DAY), default=20, help="a usual round trip, in ms (20): the same at both ends")
-    it.add_argument("--ports", nargs=2, type=number(0, 65_535, int), default=(10, 10), metavar=("OWN", "PEER"), help="the ports of the flow (10 10)")
-    it.add_argument("--state", metavar="DIR", type=pathlib.Path, help="the node's state folder, by which it knows how long it has to be silent at first "
-                    "($XDG_STATE_HOME/deltat/NODE, or ~/.local/state/deltat/NODE)")
-    it.add_argument("--again", action="store_true", help="be silent for the whole quiet time, whatever the state folder says")
-    it.add_argument("--counters", metavar="PATH", type=pathlib.Path, help="a file on tmpfs into which the node counts, as /run/deltat-1.counters: tools/counters.py reads it")
-    it.add_argument("--record", metavar="PATH", help="keep what the node takes in: `deltat retrace` writes of PATH what is in PATH.log, the node's log")
+    it.add_argument(
+        "--delay",
+        type=number(0, par.DAY),
+        default=50,
+        help="the longest delay of the link, in ms (50): the same at both ends",
+    )
+    it.add_argument(
+        "--round-trip",
+        type=number(0, par.DAY),
+        default=20,
+        help="a usual round trip, in ms (20): the same at both ends",
+    )
+    it.add_argument(
+        "--ports",
+        nargs=2,
+        type=number(0, 65_535, int),
+        default=(10, 10),
+        metavar=("OWN", "PEER"),
+        help="the ports of the flow (10 10)",
+    )
+    it.add_argument(
+        "--state",
+        metavar="DIR",
+        type=pathlib.Path,
+        help=(
+            "the node's state folder, by which it knows how long it has to be silent at first "
+            "($XDG_STATE_HOME/deltat/NODE, or ~/.local/state/deltat/NODE)"
+        ),
+    )
+    it.add_argument(
+        "--again", action="store_true", help="be silent for the whole quiet time, whatever the state folder says"
+    )
+    it.add_argument(
+        "--counters",
+        metavar="PATH",
+        type=pathlib.Path,
+        help="a file on tmpfs into which the node counts, as /run/deltat-1.counters: tools/counters.py reads it",
+    )
+    it.add_argument(
+        "--record",
+        metavar="PATH",
+        help="keep what the node takes in: `deltat retrace` writes of PATH what is in PATH.log, the node's log",
+    )
 
 
 def library() -> ModuleType:
@@ -74,15 +109,24 @@ class Live:
         self.state = self.deltat.State(folder, asked.own.node, self.params, again=asked.again, changed=True)
         try:
             given = asked.own.node, self.params, links, {asked.peer.node: 1}
-            node = self.deltat.Recorded(asked.record, *given, state=self.state) if asked.record else self.deltat.Node(*given, state=self.state)
+            node = (
+                self.deltat.Recorded(asked.record, *given, state=self.state)
+                if asked.record
+                else self.deltat.Node(*given, state=self.state)
+            )
             where = (asked.own.host, asked.own.port), {asked.peer.node: (asked.peer.host, asked.peer.port)}
             self.udp = self.deltat.Udp(node, *where, watch=False, counters=asked.counters)
         except BaseException:
             self.state.close()
             raise
         if self.state.silence() > SILENCE_SAID:
-            print(f"{pathlib.Path(sys.argv[0]).name}: node {asked.own.node} is silent for {self.state.silence() / 1000:.1f} s, since it ran before ({folder})",
-                  file=sys.stderr)
+            print(
+                (
+                    f"{pathlib.Path(sys.argv[0]).name}: node {asked.own.node} is silent for"
+                    f" {self.state.silence() / 1000:.1f} s, since it ran before ({folder})"
+                ),
+                file=sys.stderr,
+            )
         self.flow = self.deltat.Flow(asked.own.node, asked.ports[0], asked.peer.node, asked.ports[1])
         self.queued = self.acknowledged = self.uncertain = self.resent = 0
 
@@ -109,9 +153,9 @@ class Live:
 
 @contextlib.contextmanager
 def opened(asked: argparse.Namespace) -> Iterator[Live]:
-    """The node that was asked for, closed after its use. Raises OSError if its socket can't be bound, or its state folder
-    can't be written; ValueError if its port is in use, no parameters suit such a link, or the state folder is in use or
-    of another node."""
+    """The node that was asked for, closed after its use. Raises OSError if its socket can't be bound, or its state
+    folder can't be written; ValueError if its port is in use, no parameters suit such a link, or the state folder is in
+    use or of another node."""
     deltat = library()
     try:
         it = Live(asked, deltat)

@@ -46,11 +46,15 @@ def entries_of(path: str, text: str) -> Iterator[Entry]:
     for place, line in enumerate(lines):
         words = line.split(" ")
         if words[0] in ("@", "<", "!"):
-            raise NoLog(f"{path}:{place + 1}: this is a line of a trace; run the trace with `retrace`, and give its log")
+            raise NoLog(
+                f"{path}:{place + 1}: this is a line of a trace; run the trace with `retrace`, and give its log"
+            )
         if re.match("line [0-9]+: ", line):
             raise NoLog(f"{path}:{place + 1}: the node's script was refused: {line}; leave this log out")
         if words[0] == "flow" or len(words) > 1 and words[1] == "lost":
-            raise NoLog(f"{path}:{place + 1}: this is a line of a log of `replay`; give that log to `deltat audit` itself")
+            raise NoLog(
+                f"{path}:{place + 1}: this is a line of a log of `replay`; give that log to `deltat audit` itself"
+            )
         ends = words[0] == "end" and len(words) == 2 and words[1].isdigit()
         if not ends and (len(words) < 3 or not words[0].isdigit() or not words[1].isdigit()):
             raise NoLog(f"{path}:{place + 1}: this isn't a line of a log: {line[:60]}; give the log of a node")
@@ -67,7 +71,10 @@ def runs_of(path: str) -> list[Run]:
             continue
         node = int(entry.words[1])
         if runs and runs[0].node != node:
-            raise NoLog(f"{entry.place()}: this is a line of node {node}, and the earlier lines are of node {runs[0].node}; give a log for each node")
+            raise NoLog(
+                f"{entry.place()}: this is a line of node {node}, and the earlier lines are of node {runs[0].node};"
+                " give a log for each node"
+            )
         last = runs[-1].entries[-1] if runs else None
         if last is None or runs[-1].ended or entry.moment < last.moment or entry.words[2] == "restarted":
             runs.append(Run(node))
@@ -240,7 +247,9 @@ class Node:
             elif of.target == self.number:
                 self.receiving.setdefault(of, Receiving()).follow(line, life, words)
         except (IndexError, ValueError) as why:
-            raise NoLog(f"{entry.place()}: this isn't a line of a log: {entry.text[:60]}; give the log of a node") from why
+            raise NoLog(
+                f"{entry.place()}: this isn't a line of a log: {entry.text[:60]}; give the log of a node"
+            ) from why
 
 
 def nodes_of(paths: list[str]) -> dict[int, Node]:

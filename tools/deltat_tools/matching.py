@@ -34,7 +34,14 @@ class Way:
 class Matcher:
     """Matches the acceptances of one flow."""
 
-    def __init__(self, sender: Node, receiver: Node, sending: Sending, receiving: Receiving, ahead: Callable[[int, int], float | None]):
+    def __init__(
+        self,
+        sender: Node,
+        receiver: Node,
+        sending: Sending,
+        receiving: Receiving,
+        ahead: Callable[[int, int], float | None],
+    ):
         """`ahead` of a life of the sender and one of the receiver: about how many ms the receiver's clock is
         ahead, with the time that a packet takes, or None where that isn't known."""
         self.sender, self.receiver, self.ahead = sender, receiver, ahead
@@ -71,7 +78,12 @@ class Matcher:
         ahead = self.ahead(segment.life, it.life)
         if ahead is not None:
             return abs(self.apart(i, place) - ahead)
-        if way is None or not way.matched or self.accepted[i - 1].life != it.life or self.segments[way.place].life != segment.life:
+        if (
+            way is None
+            or not way.matched
+            or self.accepted[i - 1].life != it.life
+            or self.segments[way.place].life != segment.life
+        ):
             return 0.0
         return abs(self.apart(i, place) - self.apart(i - 1, way.place))
 
@@ -84,7 +96,9 @@ class Matcher:
             wrong += 3
         if it.is_run and self.segments[place].packet(True) is None:
             wrong += 1
-        if not it.is_run and (way is None or not way.matched or place != before + 1 or it.life != self.accepted[i - 1].life):
+        if not it.is_run and (
+            way is None or not way.matched or place != before + 1 or it.life != self.accepted[i - 1].life
+        ):
             wrong += 1
         cost = (way.cost if way else 0.0) + wrong * BREAK + self.unlike(i, way, place)
         return Way(cost, place, wrong > 0, way)
@@ -99,8 +113,14 @@ class Matcher:
         behind = bisect_right(all_of, way.place)
         wanted = self.moment(self.segments[way.place], self.accepted[i - 1].is_run)
         wanted += self.receiver.entries[it.line].moment - self.receiver.entries[self.accepted[i - 1].line].moment
-        near = bisect_left(all_of, wanted, key=lambda place: self.moment(self.segments[place], it.is_run)) if self.one_life() else behind
-        return sorted({*all_of[max(0, behind - 1) : behind + NEAR], *all_of[max(behind, near - 3) : max(behind, near + 3)]})
+        near = (
+            bisect_left(all_of, wanted, key=lambda place: self.moment(self.segments[place], it.is_run))
+            if self.one_life()
+            else behind
+        )
+        return sorted(
+            {*all_of[max(0, behind - 1) : behind + NEAR], *all_of[max(behind, near - 3) : max(behind, near + 3)]}
+        )
 
     def one_life(self) -> bool:
         """Whether the sender had one life, so that its segments are in the order of their moments."""

@@ -105,7 +105,10 @@ def machine_charge(drift: float, spacing: int) -> int:
 
 def machine_parts(drift: float, spacing: int) -> str:
     """The same in its parts, for people."""
-    return f"{SENDING_WAIT} ms in the sending machine, {SOCKET_WAIT} in the socket, {CLOCK_STEPS} of whole milliseconds, {drift_cost(drift, spacing)} of drift"
+    return (
+        f"{SENDING_WAIT} ms in the sending machine, {SOCKET_WAIT} in the socket, {CLOCK_STEPS} of whole milliseconds,"
+        f" {drift_cost(drift, spacing)} of drift"
+    )
 
 
 def life_used(charges: Sequence[int], waits: Sequence[int]) -> int:
@@ -192,7 +195,9 @@ def ceilings(params: Params, receiver: Params, round_trip: float, pace: int = 0)
     seconds = max(round_trip, 0.001) / 1000
     yield Ceiling(min(params.cap, receiver.rcap) / seconds, "its room each round trip")
     yield Ceiling(MOST_SEGMENTS * params.seg / seconds, "64 segments each round trip")
-    yield Ceiling(params.quantum / (params.spacing / 1000), f"{params.quantum} octets each spacing of {params.spacing} ms")
+    yield Ceiling(
+        params.quantum / (params.spacing / 1000), f"{params.quantum} octets each spacing of {params.spacing} ms"
+    )
     if pace:
         yield Ceiling(params.seg * 1000 / pace, f"a segment each {pace} ms, the pace of a link")
 

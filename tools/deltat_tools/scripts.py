@@ -10,7 +10,13 @@ from deltat_tools.parameters import DAY, Params
 MOST_INPUT = 16_777_216
 WORD = 2**32 - 1
 # the words of each line behind its first one
-FORMS = {"local": ["address"], "peer": ["link", "address", "time", "time"], "route": ["number", "link"], "shelf": ["shelf"], "go": []}
+FORMS = {
+    "local": ["address"],
+    "peer": ["link", "address", "time", "time"],
+    "route": ["number", "link"],
+    "shelf": ["shelf"],
+    "go": [],
+}
 TASKS = {"send": ["flow", "marks", "hex"], "read": ["flow", "octets"], "stop": []}
 MOST = {"number": WORD, "link": 255, "time": DAY, "shelf": 64, "octets": 65_536, "port": 65_535, "part": 255}
 LEAST = {"shelf": 1, "octets": 1}

@@ -507,8 +507,9 @@ class Calls:
         return end.answer
 
     def requests(self, seconds: float | None = None) -> Iterator[Request]:
-        """Returns the requests that arrive, until none did for this many seconds (None: until the socket is closed; 0: one
-        look). Between two of them the node waits for the program: do work that takes long in `with udp.background()`."""
+        """Returns the requests that arrive, until none did for this many seconds (None: until the socket is closed; 0:
+        one look). Between two of them the node waits for the program: do work that takes long in `with
+        udp.background()`."""
         udp = self.udp
         while True:
             end = None if seconds is None else time.monotonic() + seconds
