@@ -16,7 +16,7 @@ enum { SERVER = 1, CLIENT = 1000, LINK = 1, PORT = 20, CALLER = 10, FIRST_FLOW =
 enum { HELD = 32 };
 
 /* objects: their first port, how many flows, and octets that are kept at one time */
-enum { OBJECTS = 5000, LANES = 64, KEPT = 1 << 25 };
+enum { OBJECTS = 5000, LANES = 512, KEPT = 1 << 25 };
 
 static uint32_t setting(const char *name, uint32_t usual) {
     const char *it = getenv(name);
