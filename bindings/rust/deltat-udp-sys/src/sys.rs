@@ -881,8 +881,9 @@ extern "C" {
     pub fn dt_udp_forget(udp: *mut dt_udp, token: *const dt_token) -> dt_status;
 
     /// Opens ports `first_port` to `first_port` + `lanes` for objects, the same ports at both ends; of a node.
-    /// Objects are sent over `lanes` flows at once: 16 to 64 if the way is long. `max_octets`: of objects that
-    /// arrive, until they are taken.
+    /// Objects are sent over `lanes` flows at once, a chunk of five segments in each: 64 fill a way of 1 ms, 512
+    /// one of 20 ms, where a loss holds up the chunk of its lane only. `max_octets`: of objects that arrive, until
+    /// they are taken.
     ///
     /// - `DT_OK`
     /// - `DT_EXISTS`: done before, or one of the ports is open
