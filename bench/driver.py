@@ -28,8 +28,9 @@ from typing import NamedTuple
 
 HERE = pathlib.Path(__file__).resolve().parent
 TOP = HERE.parent
-sys.path.insert(0, str(TOP / "tests"))
+sys.path[:0] = [str(TOP / "tests"), str(TOP / "bindings" / "python")]
 
+import deltat  # noqa: E402
 from lib import HOST, free_port  # noqa: E402
 
 C = ["cc", "-O2", "-Wall", "-Wextra", "-Werror"]
@@ -181,8 +182,9 @@ def from_python(folder: pathlib.Path, many: int, seconds: float) -> tuple[float,
 def over_link(folder: pathlib.Path, link: str, octets: int) -> dict[str, list[float]]:
     """The seconds of each transfer over a link, by objects and by TCP."""
     delay, loss = (float(it) for it in link.split(":"))
-    rto = max(1.5 * 2 * delay, 20)
-    env = {**os.environ, "DELAY_MS": f"{2 * delay + 10:.0f}", "RTO_MS": f"{rto:.0f}"}
+    network = deltat.Network(delay_us=int(1000 * delay) + 10_000, round_trip_us=int(2000 * delay) or 1)
+    rto = deltat.Params.for_network(network)[0].rto  # (as dt_udp_params_for has it)
+    env = {**os.environ, "DELAY_MS": f"{2 * delay + 10:.0f}", "RTO_MS": f"{rto}"}
     at = ("10.9.0.1", "7001")
     pairs = {
         "objects": (

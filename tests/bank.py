@@ -17,7 +17,7 @@
 It needs the library (`make -C lib`), and is skipped without it. The link is that of tests/wan.py, or a relay where
 there are no namespaces.
 
-In tests/all: no words, 480 s."""
+In tests/all: no words, 600 s."""
 import os
 import pathlib
 import re
@@ -174,7 +174,7 @@ def timed() -> list[tuple[str, bool, str]]:
 def run(seconds: str, *words: str) -> tuple["subprocess.CompletedProcess[str]", dict[str, dict[str, int]]]:
     """A run of the demonstration, and the numbers of its table, of each way by the row's name."""
     command = [*DEMO, "--seconds", seconds, *words]
-    it = subprocess.run(command, capture_output=True, text=True, check=False, timeout=340)
+    it = subprocess.run(command, capture_output=True, text=True, check=False, timeout=440)
     print(it.stdout, end="")
     ways: list[str] = []
     numbers: dict[str, dict[str, int]] = {}
@@ -213,7 +213,7 @@ def ran(seconds: str) -> list[tuple[str, bool, str]]:
 def set_back(seconds: str) -> list[tuple[str, bool, str]]:
     it, numbers = run(seconds, "--set-back")
     by_orders, by_keys = numbers.get(demo.ORDERS, {}), numbers.get(demo.KEYS, {})
-    gone, told = "answered, and the bank has it no more", "of these their clients were told"
+    gone, told = demo.GONE, demo.TOLD
     return [
         ("set back: it ends with 0", it.returncode == 0, it.stderr.strip()[-300:]),
         ("set back: orders are gone by both ways", by_orders.get(gone, 0) > 0 and by_keys.get(gone, 0) > 0, ""),

@@ -184,14 +184,15 @@ class World:
 @contextlib.contextmanager
 def world(folder: pathlib.Path, name: str, loss: float = 0.0) -> Iterator[World]:
     it = World(folder / name, folder / "sanitized", loss=loss)
-    failure = ""
+    failure, wrong = "", []
     try:
         it.start_server()
         it.start_gateway()
         yield it
     except (RuntimeError, OSError, EOFError, subprocess.SubprocessError) as error:
         failure = f"{type(error).__name__}: {error}"
-    wrong = it.stop()
+    finally:
+        wrong = it.stop()
     if failure or wrong:
         raise RuntimeError("; ".join([failure, *wrong[:8]]))
 
@@ -559,6 +560,7 @@ def main() -> int:
     reads.add_argument("names", nargs="*", metavar="CASE", help=", ".join(names))
     reads.add_argument("--partitions", type=int, default=2, metavar="N")
     given = reads.parse_args()
+    signal.signal(signal.SIGTERM, lambda *_: sys.exit(1))  # (so that what was started is ended)
     chosen = given.names or names
     missing = sorted({package for word, package in WORDS.items() if shutil.which(word) is None})
     if missing:
@@ -569,7 +571,7 @@ def main() -> int:
     with tempfile.TemporaryDirectory(prefix="deltat-blocks-") as name:
         folder = pathlib.Path(name)
         (folder / "sanitized").mkdir()
-        ran("make", "-s", "-C", str(BLOCKS), f"OUT={folder}/sanitized", f"CFLAGS={SANITIZED}", seconds=120)
+        ran("make", "-s", "-C", str(BLOCKS), f"OUT={folder}/sanitized", f"CFLAGS={SANITIZED}", seconds=240)
         outcomes += [tried(it, folder) for it in cases if it.__name__ in chosen]
     if "partitions" in chosen and has_namespaces() and has_libnbd():
         why, seen = partitions(given.partitions)

@@ -11,15 +11,21 @@
 - `lanes`: in AsyncOrders a lane has two orders or none gets it again, whatever is settled twice, cancelled or raises;
   an alarm doesn't name exactly what is undone; or after a write that failed something is called, or waits for ever;
 - `log`: a log that is cut anywhere, or has a changed octet, isn't read as a first part of its records;
+- `chains`: of a chain of three ends, whose middle dies at commits, a part is done twice or not at all, or its result
+  isn't told; or a middle isn't told of a set back of the last end;
+- `power`: the power is cut after any system call that changes a file, and of what wasn't synced any part is lost: an
+  order is lost or executed twice; or that isn't seen where an end doesn't sync;
+- `server`: an order that can't be committed holds up others; orders over sockets don't share transactions; an order is
+  Unknown and not for its reason; or many calls are needed for a fate though all is well again;
 - `killed`: of two processes, each is killed at each of its system calls that write, sync, send or receive, and an order
   is lost or executed twice;
 - `postgres`: the same service over PostgreSQL executes twice, or keeps what a handler did that failed;
 - `page`: the programs of docs/orders.md don't run as they stand there, or have more than 40 lines together.
 
-`killed` needs strace, and `postgres` a PostgreSQL server and psycopg: without them they are left out. It needs the
-library (`make -C lib`).
+`killed` and `power` need strace, and `postgres` a PostgreSQL server and psycopg: without them they are left out. It
+needs the library (`make -C lib`).
 
-In tests/all: no words, 300 s."""
+In tests/all: no words, 600 s."""
 import os
 import pathlib
 import shutil
@@ -32,12 +38,15 @@ if not LIBRARY.exists():
     skip(f"{LIBRARY} isn't there: make -C lib")
 sys.path[:0] = [str(TOP / "bindings" / "python"), str(TOP / "tests" / "orders")]
 
+import chains  # noqa: E402
 import killed  # noqa: E402
 import lanes  # noqa: E402
 import module  # noqa: E402
 import mutants  # noqa: E402
 import page  # noqa: E402
 import postgres  # noqa: E402
+import power  # noqa: E402
+import server  # noqa: E402
 import twins  # noqa: E402
 
 PARTS = {
@@ -45,12 +54,15 @@ PARTS = {
     "library": twins.cases,
     "module": module.cases,
     "lanes": lanes.cases,
+    "chains": chains.cases,
     "log": module.log_cases,
+    "power": power.cases,
+    "server": server.cases,
     "killed": killed.cases,
     "postgres": postgres.cases,
     "page": page.cases,
 }
-LACKS = {"killed": not shutil.which("strace"), "postgres": not postgres.is_there()}
+LACKS = {it: not shutil.which("strace") for it in ("killed", "power")} | {"postgres": not postgres.is_there()}
 
 
 def main() -> int:

@@ -466,6 +466,13 @@ def stamps(built: Built, folder: pathlib.Path) -> str:
     return ran.stdout.strip()
 
 
+def acks(built: Built, folder: pathlib.Path) -> str:
+    """Acknowledgements of one flow that wait together leave as one, which acknowledges all."""
+    ran = subprocess.run([built("acks")], capture_output=True, text=True, timeout=PATIENCE, check=False)
+    wants(ran.returncode == 0 and ran.stdout == "answered by 1\n", ran.stdout + ran.stderr[-2000:])
+    return "five segments by one"
+
+
 def room(built: Built, folder: pathlib.Path) -> str:
     """Calls, messages and objects are refused when their settings are reached, an event says when there is room again,
     each call has its own user at its end, and a drain waits until nothing is outstanding."""
@@ -872,6 +879,7 @@ CASES: list[Callable[[Built, pathlib.Path], str]] = [
     threads,
     driven,
     stamps,
+    acks,
     room,
     narrow,
     learnt,

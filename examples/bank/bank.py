@@ -43,7 +43,8 @@ CHARGE = 244
 TIMEOUT = 2.0
 # before an order is called again, at first and at most
 WAITS = (0.05, 1.0)
-DRAIN_MS = 15_000
+# how long clients find out what became of their orders, at most
+DRAIN_MS = 60_000
 
 Found = TypeVar("Found")
 

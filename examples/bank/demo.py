@@ -69,6 +69,7 @@ WAYS = {
 }
 # the parts of the time after which the bank's disk is copied, and is set back to the copy
 COPIED, SET_BACK = 0.25, 0.75
+GONE, TOLD = "answered, and the bank has it no more", "of these their clients were told"
 # what a row of the table has
 Cell = int | float | None
 
@@ -148,6 +149,7 @@ def keep(words: list[str]) -> int:
 
 def copy_of(path: pathlib.Path, copy: pathlib.Path) -> None:
     """Copies a database, which may be in use, as it is after one of its transactions."""
+    copy.unlink(missing_ok=True)
     db = sqlite3.connect(path, timeout=30)
     db.execute("VACUUM INTO ?", (str(copy),))
     db.close()
@@ -215,8 +217,8 @@ def outcome(folder: pathlib.Path) -> dict[str, Cell]:
         "told as unknown": sum(fate == "unknown" for fate in fates.values()),
         "not found out": sum(not fate for fate in fates.values()),
         "booked, and given by nobody": sum(it not in fates for it in booked),
-        "answered, and the bank has it no more": len(gone),
-        "of these their clients were told": len(gone & undone),
+        GONE: len(gone),
+        TOLD: len(gone & undone),
         "told as gone, and the bank has it": sum(it in executed for it in undone),
         "kills of clients": len(kills(folder, "clients")),
         "kills of the bank": len(kills(folder, "bank")),
@@ -294,14 +296,14 @@ def has_namespaces() -> bool:
 
 
 def over(way: str, link: Link, given: argparse.Namespace, folder: pathlib.Path) -> dict[str, Cell]:
-    """A run of the bank over a link."""
-    folder.mkdir()
+    """A run of the bank over a link. A bank whose folder is there continues."""
+    folder.mkdir(exist_ok=True)
     until = deltat.now() + round(1000 * given.seconds) + 1_000
     words = [sys.executable, str(HERE / "demo.py")]
     commands = [[*words, "keep", side, way, str(folder), str(until), str(given.seed)] for side in ("bank", "clients")]
     if given.set_back:
         commands[0] += [str(until - 1000 * given.seconds * (1 - it)) for it in (COPIED, SET_BACK)]
-    ran = linked(commands, link, Bound(given.seconds + 60), given.seed)
+    ran = linked(commands, link, Bound(given.seconds + 90), given.seed)
     if ran.stopped or any(ran.statuses):
         stopped = ", stopped" if ran.stopped else ""
         raise SystemExit(f"demo: {way}: the clients ended with {ran.statuses[1]}{stopped}")
@@ -402,19 +404,27 @@ def is_kept(it: dict[str, Cell]) -> bool:
     return not any(it[name] for name in (*WRONG, "told as unknown")) and bool(it["booked"] and it["kills of clients"])
 
 
+def is_exact(it: dict[str, Cell]) -> bool:
+    """Whether the promise was kept, and clients were told exactly what set backs took."""
+    wrong = (*WRONG, "told as unknown", "told as gone, and the bank has it")
+    return it[GONE] == it[TOLD] and not any(it[name] for name in wrong)
+
+
 def is_told(by: dict[str, dict[str, Cell]]) -> bool:
-    """Whether by orders each client was told exactly what a set back took, and by keys something was taken too."""
-    it = by[ORDERS]
-    gone, told, wrongly = list(it.values())[list(it).index("answered, and the bank has it no more") :][:3]
-    is_exact = bool(gone) and gone == told and not wrongly and not any(it[name] for name in WRONG)
-    return is_exact and bool(by[KEYS]["answered, and the bank has it no more"])
+    """Whether by orders clients were told exactly what a set back took, and by keys something was taken too."""
+    return is_exact(by[ORDERS]) and bool(by[ORDERS][GONE]) and bool(by[KEYS][GONE])
 
 
-def demonstrate(folder: pathlib.Path, given: argparse.Namespace) -> int:
-    if given.relay or not has_namespaces():
+def choose_place(is_relayed: bool) -> None:
+    """Has the ends on this machine with a relay between them, if that is asked for or there are no namespaces."""
+    if is_relayed or not has_namespaces():
         os.environ["BANK_RELAYED"] = "1"
         # this process relays, and those that it starts are told by their environment
         importlib.reload(bank)
+
+
+def demonstrate(folder: pathlib.Path, given: argparse.Namespace) -> int:
+    choose_place(given.relay)
     link = Link(DELAY, given.loss, given.repeat, given.late)
     place = "a relay on this machine" if bank.IS_RELAYED else "two namespaces by tests/wan.py"
     print(f"{DELAY} ms each way; of 100 packets {100 * link.loss:.0f} dropped, {100 * link.dup:.0f} repeated, "

@@ -10,7 +10,6 @@
 /* What is known of the network. Equal for the server and all gateways. */
 struct network { struct dt_params params; uint32_t charge; };
 struct address { char *host, *port; };
-
 #define NETWORK_USAGE "\nNETWORK: DELAY,ROUND-TRIP[,MTU], in ms as tools/params.py takes them; a rack is 2,0.3"
 
 struct network network_of(const char *word);

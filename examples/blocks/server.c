@@ -4,18 +4,18 @@
  * A request is answered after it is done, and only then is the next of its flow handed out (max_requests_per_flow is
  * 1). With the order of requests on a flow, that is all that the rule of the gateway needs (flows.c).
  *
- * All threads do the same: they take what the driver hands out into the queue, do what is in the queue, and else wait
- * for the driver, of which the kernel wakes one. One thread never works with the disk, so that the driver is looked at
- * however long the disk takes. */
+ * One thread leads: it takes what the driver hands out, and does it. If it is at the disk when the watchdog looks,
+ * another one leads from then on, so that the driver is looked at however long the disk takes. One thread never works
+ * with the disk. A disk in memory costs no change of threads. */
 #include "common.h"
 #include "disk.h"
 #include <poll.h>
 #include <pthread.h>
 #include <sys/epoll.h>
-#include <sys/eventfd.h>
 #include <sys/stat.h>
+#include <sys/timerfd.h>
 
-enum { THREADS = 8 };
+enum { THREADS = 8, WATCH_NS = 1000000 };
 
 /* A request that was handed out, and later its answer. */
 struct job {
@@ -32,12 +32,12 @@ struct server {
     struct job *first, *last; /* handed out, and not begun */
     struct job *put_off;      /* done, and its flow had no room for the answer */
     unsigned busy;            /* threads that work with the disk */
-    bool barrier;             /* one is being done */
-    int epoll, wakes;
+    bool barrier, is_led, is_watched; /* one is being done; a thread waits for the driver; the watchdog will look */
+    int standby, watchdog;
     struct disk disk;
 };
 
-/* --- the driver; `lock` is held */
+/* --- `lock` is held when each of these begins, and when it ends */
 
 static bool is_request(const struct request *it, size_t len) {
     if (it->version != VERSION || it->op < OP_READ || it->op > OP_TAKE_OVER) return false;
@@ -61,7 +61,9 @@ static void take(struct server *server, const struct dt_udp_event *event) {
 }
 
 /* Answers jobs that are done. One whose flow has no room waits until an event says that there is some. */
-static void answer(struct server *server, struct job *job) {
+static void answer(struct server *server, struct job **jobs) {
+    struct job *job = *jobs;
+    *jobs = NULL;
     for (struct job *next; job; job = next) {
         next = job->next;
         bool is_full = dt_udp_reply(server->udp, &job->token, job->octets, job->len).status == DT_FULL;
@@ -71,35 +73,21 @@ static void answer(struct server *server, struct job *job) {
     }
 }
 
-/* Takes all that the driver has, and sends what waits. */
-static void take_events(struct server *server) {
-    for (const struct dt_udp_event *event; (event = dt_udp_next_event(server->udp, 0))->kind != DT_UDP_EVENT_NONE;) {
-        if (event->kind == DT_UDP_EVENT_REQUEST) take(server, event);
-        udp_judge(event);
-        if (event->kind != DT_UDP_EVENT_ROOM) continue;
-        struct job *all = server->put_off;
-        server->put_off = NULL;
-        answer(server, all);
-    }
-}
-
-/* --- the threads; `lock` is held */
-
 static bool may_begin(const struct server *server) {
     const struct job *job = server->first;
     if (job == NULL || server->barrier || server->busy + 1 >= THREADS) return false;
     return server->busy == 0 || !is_barrier(&job->request);
 }
 
-/* Does the first job. What waits to be sent isn't held up by the disk: another thread is woken for the next job, and
- * the last one of them sends it. */
+/* Does the first job. Its answer leaves with what else the leader sends. */
 static void do_first(struct server *server) {
+    static const struct itimerspec SOON = {.it_value = {0, WATCH_NS}};
     struct job *job = server->first;
     server->first = job->next;
     server->barrier = is_barrier(&job->request);
     server->busy++;
-    if (server->first == NULL) dt_udp_flush(server->udp);
-    else if (eventfd_write(server->wakes, 1) != 0) die_of_errno("eventfd");
+    if (!server->is_watched && timerfd_settime(server->watchdog, 0, &SOON, NULL) != 0) die_of_errno("timerfd");
+    server->is_watched = true;
     pthread_mutex_unlock(&server->lock);
     struct answer it = disk_do(&server->disk, &job->request, job->octets + HEADER);
     job->len = HEADER + (job->request.op == OP_READ && it.error == 0 ? job->request.length : 0);
@@ -109,30 +97,45 @@ static void do_first(struct server *server) {
     server->busy--;
     server->barrier = false; /* (while one is done, nothing else is) */
     job->next = NULL;
-    answer(server, job);
+    answer(server, &job);
+    if (server->is_led) dt_udp_flush(server->udp); /* (the leader is another one by now) */
+}
+
+/* Takes all that the driver has and does it, and sends what waits. Each request is done before the socket is looked at
+ * again, so that its acknowledgement leaves with the answer. */
+static void take_events(struct server *server) {
+    for (const struct dt_udp_event *event; (event = dt_udp_next_event(server->udp, 0))->kind != DT_UDP_EVENT_NONE;) {
+        udp_judge(event);
+        if (event->kind == DT_UDP_EVENT_REQUEST) take(server, event);
+        if (event->kind == DT_UDP_EVENT_ROOM) answer(server, &server->put_off);
+        while (may_begin(server)) do_first(server);
+    }
 }
 
 static void *work(void *of) {
     struct server *server = of;
     pthread_mutex_lock(&server->lock);
     for (struct epoll_event event;;) {
-        while (may_begin(server)) do_first(server);
-        take_events(server);
-        if (may_begin(server)) continue;
+        if (server->is_led) while (may_begin(server)) do_first(server);
+        else take_events(server);
+        bool leads = !server->is_led;
+        server->is_led = true;
         pthread_mutex_unlock(&server->lock);
-        if (epoll_wait(server->epoll, &event, 1, -1) < 0 && errno != EINTR) die_of_errno("epoll_wait");
+        int got = leads ? poll(&(struct pollfd){dt_udp_fd(server->udp), POLLIN, 0}, 1, -1)
+                        : epoll_wait(server->standby, &event, 1, -1);
+        if (got < 0 && errno != EINTR) die_of_errno("poll");
         pthread_mutex_lock(&server->lock);
+        if (leads) server->is_led = false;
+        else server->is_watched = false;
     }
 }
 
 static void begin(struct server *server) {
     pthread_t it;
     struct epoll_event readable = {.events = EPOLLIN | EPOLLET}; /* (one thread is woken each time) */
-    server->epoll = epoll_create1(EPOLL_CLOEXEC);
-    server->wakes = eventfd(0, EFD_CLOEXEC | EFD_NONBLOCK);
-    if (epoll_ctl(server->epoll, EPOLL_CTL_ADD, dt_udp_fd(server->udp), &readable) != 0 ||
-        epoll_ctl(server->epoll, EPOLL_CTL_ADD, server->wakes, &readable) != 0)
-        die_of_errno("epoll");
+    server->standby = epoll_create1(EPOLL_CLOEXEC);
+    server->watchdog = timerfd_create(CLOCK_MONOTONIC, TFD_CLOEXEC | TFD_NONBLOCK);
+    if (epoll_ctl(server->standby, EPOLL_CTL_ADD, server->watchdog, &readable) != 0) die_of_errno("epoll");
     for (int i = 0; i < THREADS; i++)
         if (pthread_create(&it, NULL, work, server) != 0) die("no thread");
 }
@@ -153,7 +156,7 @@ int main(int count, char **words) {
     fprintf(stderr, "server: mpl %u ms; silent for %d ms\n", network.params.mpl, (int)dt_udp_silent_ms(server.udp));
     begin(&server);
     while (poll(&(struct pollfd){signals, POLLIN, 0}, 1, -1) != 1) {}
-    pthread_mutex_lock(&server.lock); /* (what is at work with the disk ends with the process) */
+    pthread_mutex_lock(&server.lock); /* (what is at the disk ends with the process) */
     dt_udp_close(server.udp);
     exit(0);
 }

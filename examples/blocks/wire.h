@@ -1,10 +1,8 @@
-/* What a gateway asks of the server, and what the server answers: each is one call. On the wire numbers are
- * big-endian. */
+/* What a gateway asks of the server, and what the server answers, by one call. On the wire numbers are big-endian. */
 #pragma once
 #include <endian.h>
 #include <stdbool.h>
 #include <stdint.h>
-
 enum { SERVER = 1 /* its node */, SERVICE_PORT = 20, VERSION = 2 };
 enum { HEADER = 24, MAX_PART = 32768 }; /* octets of a request or an answer; of the data behind it, at most */
 enum op { OP_READ = 1, OP_WRITE, OP_FLUSH, OP_TRIM, OP_ZERO, OP_HELLO, OP_TAKE_OVER };

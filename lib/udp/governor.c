@@ -15,6 +15,7 @@ enum {
     UNPACED_US = 4000, /* shorter ways than this can't be paced by a clock of milliseconds */
     HEADERS = 92, /* octets */
     BURST_SEGMENTS = 16,
+    QUICK_OCTETS = 1 << 20, /* a start grows faster up to this window: of a greater one a round shows it too late */
     FIRST_ROUNDS = 3, /* in which no loss is counted */
     PROBE_ROUNDS = 64, /* beside others: after so many it is tried whether they are still there */
     LONG_LOW = 4,    /* rounds without a queue after which the window grows faster: a stall ended the start too soon */
@@ -146,16 +147,17 @@ static void end_round(dt_udp *u, struct watch *it, uint16_t heard, uint64_t now_
                  (queue > aim / 8 && is_lossy(more, went, beside ? 4 : 12));
     if (lossy || !g->limited || standing >= aim / 8 || queue >= aim / 2 || is_lossy(more, went, 50)) g->low = 0;
     else if (g->low < LONG_LOW) g->low++;
+    /* (of two rounds in a row with half the aim one may have been a late wake, not both) */
+    if (lossy || (queue > aim / 2 && (g->was_slow || standing > aim / 4))) g->fast = false;
+    g->was_slow = queue > aim / 2;
     if (probes) (void)dt_watch_shrink(it->rules, 500); /* (if the queue was ours, it is empty then) */
     else if (lossy) (void)dt_watch_shrink(it->rules, (uint32_t)(more * 1000 / went));
     else if (queue > g->target_us) (void)dt_watch_shrink(it->rules, dt_watch_cut(queue, base, g->target_us));
     else if (g->limited) {
         (void)dt_watch_grow(it->rules, (g->fast && queue < aim / 2) || g->low == LONG_LOW);
-        if (g->fast && queue < aim / 4) (void)dt_watch_grow(it->rules, true);
+        bool small = dt_watch_window(it->rules) < QUICK_OCTETS;
+        if (g->fast && small && queue < aim / 4) (void)dt_watch_grow(it->rules, true);
     }
-    /* (of two rounds in a row with half the aim one may have been a late wake, not both) */
-    if (lossy || (queue > aim / 2 && (g->was_slow || standing > aim / 4))) g->fast = false;
-    g->was_slow = queue > aim / 2;
     g->sum_us = g->count = 0;
     g->least_us = DT_NEVER;
     g->limited = false;

@@ -324,7 +324,7 @@ async def at_random(bank: Bank, store: Memory, chance: random.Random) -> str:
                     fates.append((order.body, await given.settle(order)))
         done = Counter(bank.effects())
         for body, fate in fates:
-            if done[body] != (fate == orders.Done(b"did " + body)) or fate == orders.Unknown:
+            if done[body] != (fate == orders.Done(b"did " + body)) or isinstance(fate, orders.Unknown):
                 return f"{body!r} is {fate}, and was executed {done[body]} times"
         return await all_lanes_work(bank, given, b"after")
 

@@ -1130,10 +1130,15 @@ class AsyncOrders:
             await asyncio.shield(self._writing)
 
     def _write(self) -> asyncio.Future[None]:
-        """Begins to write what is appended, and returns its end. It is no task, so that nothing cancels it."""
-        writes, records, last = self._book.take_unwritten()
+        """Has written what is appended until the next turn of the loop, and returns the end of that. It is no task, so
+        that nothing cancels it."""
         loop = asyncio.get_running_loop()
         self._writing = end = loop.create_future()
+        loop.call_soon(self._begin_write, end)
+        return end
+
+    def _begin_write(self, end: asyncio.Future[None]) -> None:
+        writes, records, last = self._book.take_unwritten()
 
         def ended(writing: asyncio.Future[None]) -> None:
             self._writing = None
@@ -1145,8 +1150,7 @@ class AsyncOrders:
             # (all that wait look again)
             end.set_result(None)
 
-        loop.run_in_executor(self._thread, writes, records).add_done_callback(ended)
-        return end
+        asyncio.get_running_loop().run_in_executor(self._thread, writes, records).add_done_callback(ended)
 
     async def _found_undone(self) -> list[Order]:
         """The orders that are undone. Calls that are under way end before: one may bring a fate of before the set
@@ -1330,7 +1334,9 @@ class Served:
         return function
 
     def close(self) -> None:
-        self.database.close()
+        """Closes the database, when no transaction runs."""
+        with self._lock:
+            self.database.close()
 
     # the store
 

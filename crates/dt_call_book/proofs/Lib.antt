@@ -1,3 +1,2 @@
-mod Scans
 mod PortKinds
 mod Told

@@ -1,8 +1,6 @@
 //! What is asked of a call book.
-ghost use Rattle.std.specs.Prelude.{◌≡◌, ◌<◌, ◌≤◌, ◌^◌, ◌==◌, ◌&&◌, MatchOption, OnErr, OnOk, filter, nat_lt, not};
-ghost use Rattle.std.specs.List.{list_any};
+ghost use Rattle.std.specs.Prelude.{◌≡◌, ◌<◌, ◌≤◌, ◌^◌, MatchOption, OnErr, OnOk, filter, nat_lt, not};
 ghost use Rattle.dt_world_model.specs.Tables.{same_flow};
-ghost use Rattle.dt_service_model.specs.declared.calls.OpenCall.{OpenCall};
 ghost use Rattle.dt_service_model.specs.Asked.{forgotten, is_life_in_use, next_number, raised, with_call};
 ghost use Rattle.dt_service_model.specs.Carrying.{carried_by, next_size};
 ghost use Rattle.dt_service_model.specs.Ends.{next};
@@ -11,24 +9,11 @@ ghost use Rattle.dt_service_model.specs.Turns.{done_with};
 ghost use Rattle.dt_service_model.specs.Whole.{is_open};
 
 use crate::call_book::CallBook;
-use crate::counting::{is_same, waiting_in};
+use crate::counting::is_same;
 use crate::whole::{drop_token, is_open};
 use dt_items::NoMemory;
 use dt_service_model::{CallCounts, CallNumber, Cause, Happening, OpenCall, Token};
 use dt_units::Flow;
-
-fn is_in_use(life: u32, call: &OpenCall) -> bool
-    ensures { result ≡ (call.now.waits && (call.now.number.life == life)) }
-{
-    call.waits && call.number.life == life
-}
-
-/// Whether a call with this life waits.
-fn waits_with(life: u32, calls: &[OpenCall]) -> bool
-    ensures { result ≡ list_any (λ (call : OpenCall). call.waits && (call.number.life == life)) calls.now }
-{
-    calls.iter().any(|call| is_in_use(life, call))
-}
 
 /// A flow is to be read no more.
 fn drop_flow(flow: &Flow, flows: &mut Vec<Flow>)
@@ -63,12 +48,11 @@ impl CallBook {
         })
     }
 
-    /// Whether one call more may wait, beside those that wait and the ends that weren't taken. The cost is
-    /// a look at each that waits.
+    /// Whether one call more may wait, beside those that wait and the ends that weren't taken.
     pub fn has_room_for_call(&self) -> bool
         ensures { result ≡ nat_lt (calls_held self.now) self.now.most.calls }
     {
-        waiting_in(&self.calls) + self.happenings.ends() < self.most.calls as usize
+        self.calls.waiting().saturating_add(self.happenings.ends()) < self.most.calls as usize
     }
 
     /// A call is made whose request of so many octets was taken. It waits until the deadline, a moment in
@@ -114,7 +98,7 @@ impl CallBook {
         ensures raised { self.new ≡ raised life self.old }
         ensures answer { result ≡ not (is_life_in_use life self.old) }
     {
-        if life == self.life || waits_with(life, &self.calls) {
+        if life == self.life || self.calls.is_life_in_use(life) {
             return false;
         }
         self.life = life;
@@ -145,10 +129,10 @@ impl CallBook {
         if let Some(happening) = self.happenings.pop() {
             return Some(happening);
         }
-        if !self.closed || self.calls.is_empty() {
+        if !self.closed {
             return None;
         }
-        let call = self.calls.remove(0).number;
+        let call = self.calls.pop()?.number;
         let cause = Cause::Closed;
         Some(Happening::Unsure { call, cause })
     }

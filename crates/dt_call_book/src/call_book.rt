@@ -6,7 +6,8 @@ ghost use Rattle.dt_service_model.specs.CallBook.{new_book};
 use crate::begun_messages::BegunMessage;
 use crate::happenings::Happenings;
 use crate::ports::Ports;
-use dt_service_model::{CallCounts, Most, OpenCall, Token};
+use dt_open_calls::OpenCalls;
+use dt_service_model::{CallCounts, Most, Token};
 use dt_units::Flow;
 use std::alloc::Global;
 use std::marker::Model;
@@ -20,7 +21,7 @@ pub struct CallBook {
     pub(crate) life: u32,
     /// How many calls were made in this life: 2^32 at most.
     pub(crate) count: u64,
-    pub(crate) calls: Vec<OpenCall>,
+    pub(crate) calls: OpenCalls,
     pub(crate) tokens: Vec<Token>,
     pub(crate) begun: Vec<BegunMessage>,
     pub(crate) unread: Vec<Flow>,
@@ -33,7 +34,7 @@ impl Model for CallBook {
 
     ghost Value = { book.CallBook };
 
-    ghost view = { λ h. record { most = h.most; closed = h.closed; ports = h.ports; life = h.life; count = h.count; calls = h.calls.items; tokens = h.tokens.items; begun = h.begun.items; unread = h.unread.items; counts = h.counts; happenings = h.happenings } };
+    ghost view = { λ h. record { most = h.most; closed = h.closed; ports = h.ports; life = h.life; count = h.count; calls = h.calls; tokens = h.tokens.items; begun = h.begun.items; unread = h.unread.items; counts = h.counts; happenings = h.happenings } };
 }
 
 const NO_COUNTS: CallCounts = CallCounts {
@@ -57,7 +58,7 @@ impl CallBook {
             ports: Ports::new(alloc),
             life,
             count: 0,
-            calls: Vec::new(alloc),
+            calls: OpenCalls::new(alloc),
             tokens: Vec::new(alloc),
             begun: Vec::new(alloc),
             unread: Vec::new(alloc),

@@ -2,10 +2,9 @@
 ghost use Rattle.std.specs.Prelude.{◌≡◌, count_by};
 ghost use Rattle.std.specs.List.{list_any};
 ghost use Rattle.dt_world_model.specs.Tables.{same_flow};
-ghost use Rattle.dt_service_model.specs.declared.calls.OpenCall.{OpenCall};
 ghost use Rattle.dt_service_model.specs.declared.names.Token.{Token};
 
-use dt_service_model::{OpenCall, Token};
+use dt_service_model::Token;
 use dt_units::Flow;
 
 pub fn is_same(one: &Flow, other: &Flow) -> bool
@@ -29,11 +28,4 @@ pub fn tokens_of(tokens: &[Token], flow: &Flow) -> usize
         .iter()
         .filter(|token| is_same(&token.flow, flow))
         .count()
-}
-
-/// How many calls wait.
-pub fn waiting_in(calls: &[OpenCall]) -> usize
-    ensures { result ≡ count_by (λ (call : OpenCall). call.waits) calls.now }
-{
-    calls.iter().filter(|call| call.waits).count()
 }

@@ -1,13 +1,16 @@
 //! What happened at a node and wasn't taken.
-ghost use Rattle.std.specs.Prelude.{◌≡◌, ◌<◌, ◌^◌, ◌++◌, ◌∷◌, [], MatchOption, OnErr, OnOk, count_by, filter, filter_map, length, map, option_copied, slice_get};
-ghost use Rattle.std.specs.List.{list_any};
+ghost use Rattle.std.specs.Prelude.{◌≡◌, ◌<◌, ◌^◌, ◌++◌, ◌∷◌, [], IfOk, MatchOption, OnErr, OnOk, count_by, filter, filter_map, if◌then◌else◌, is_some, length, map, option_copied, slice_get};
+ghost use Rattle.std.specs.List.{list_any, position};
+ghost use Rattle.dt_service_model.specs.declared.happenings.Happening.TheVariants.{Answered};
+ghost use Rattle.dt_service_model.specs.Whole.{is_waiting_call};
+ghost use Rattle.dt_open_calls.specs.Slots.{ended_in};
 ghost use Rattle.dt_service_model.specs.CallBook.{is_end, is_request};
 ghost use Rattle.dt_service_model.specs.Hearing.{is_uncertain};
 ghost use Rattle.dt_service_model.specs.Ends.{is_kept, judged_call, unsure_of};
 
-use crate::judging;
 use dt_items::NoMemory;
-use dt_service_model::{Happening, OpenCall};
+use dt_open_calls::OpenCalls;
+use dt_service_model::{CallNumber, Happening, Payload};
 use dt_units::Flow;
 use std::alloc::Global;
 use std::collections::VecDeque;
@@ -136,16 +139,41 @@ impl Happenings {
         Some(happening)
     }
 
+    /// The first call of this number that waits on a flow has its end, with this answer. Answers whether there is
+    /// one. `NoMemory` leaves all as it was.
+    pub fn answer(
+        &mut self,
+        calls: &mut OpenCalls,
+        flow: &Flow,
+        call: CallNumber,
+        answer: Payload,
+    ) -> Result<bool, NoMemory>
+        ensures ended { IfOk result (λ is_ended. is_ended ≡ is_some (position (is_waiting_call flow.now call) calls.old)) }
+        ensures calls { OnOk result (calls.new ≡ ended_in (position (is_waiting_call flow.now call) calls.old) calls.old) }
+        ensures told { IfOk result (λ is_ended. self.new ≡ (if is_ended then self.old ++ Answered call answer ∷ [] else self.old)) }
+        ensures same_calls { OnErr result (calls.new ≡ calls.old) }
+        ensures same_told { OnErr result (self.new ≡ self.old) }
+    {
+        self.queue.reserve(1)?;
+        if !calls.end_waiting(flow, call) {
+            return Ok(false);
+        }
+        self.queue
+            .push_back_reserved(Happening::Answered { call, answer });
+        self.ends += 1;
+        Ok(true)
+    }
+
     /// Each call is judged at a moment: those that are unsure are reported, and what has come to its end is
     /// kept no more. `NoMemory` leaves all as it was.
-    pub fn judge(&mut self, now: u64, calls: &mut Vec<OpenCall>) -> Result<(), NoMemory>
-        ensures calls { OnOk result (calls.new.items ≡ filter is_kept (map (judged_call now) calls.old.items)) }
-        ensures told { OnOk result (self.new ≡ self.old ++ filter_map (unsure_of now) calls.old.items) }
-        ensures same_calls { OnErr result (calls.new.items ≡ calls.old.items) }
+    pub fn judge(&mut self, now: u64, calls: &mut OpenCalls) -> Result<(), NoMemory>
+        ensures calls { OnOk result (calls.new ≡ filter is_kept (map (judged_call now) calls.old)) }
+        ensures told { OnOk result (self.new ≡ self.old ++ filter_map (unsure_of now) calls.old) }
+        ensures same_calls { OnErr result (calls.new ≡ calls.old) }
         ensures same_told { OnErr result (self.new ≡ self.old) }
     {
         let before = self.queue.len();
-        judging::judge(now, calls, &mut self.queue)?;
+        calls.judge(now, &mut self.queue)?;
         self.ends += self.queue.len() - before;
         Ok(())
     }

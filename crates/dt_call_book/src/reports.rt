@@ -11,8 +11,6 @@ ghost use Rattle.dt_world_model.specs.Tables.{earliest};
 use crate::begun_messages::keep_received;
 use crate::call_book::CallBook;
 use crate::counting::{has_flow, tokens_of};
-use crate::hearing::with_fates;
-use crate::judging::deadline;
 use crate::uncertain::tell_given_up;
 use dt_endpoint::Endpoint;
 use dt_items::NoMemory;
@@ -36,11 +34,11 @@ impl CallBook {
     {
         match matter {
             Matter::Acknowledged { flow, count, .. } => {
-                with_fates(false, &flow, count, &mut self.calls);
+                self.calls.with_fates(false, &flow, count);
             }
             Matter::GivenUp { flow, count } => {
                 tell_given_up(&flow, &self.ports, &mut self.happenings)?;
-                with_fates(true, &flow, count, &mut self.calls);
+                self.calls.with_fates(true, &flow, count);
             }
             Matter::Accepted { flow, .. } => self.accept(flow)?,
             Matter::Taken { .. }
@@ -101,11 +99,11 @@ impl CallBook {
     }
 
     /// The least moment in milliseconds at which the patience of a call that waits is over, or none where
-    /// none waits. The cost is a look at each call.
+    /// none waits. The cost is a look at one in 64 calls.
     pub fn deadline(&self) -> Option<u64>
         ensures { result ≡ earliest deadline_of self.now.calls }
     {
-        deadline(&self.calls)
+        self.calls.deadline()
     }
 
     /// Calls are judged at a moment. `NoMemory` leaves all as it was.

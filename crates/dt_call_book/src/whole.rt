@@ -1,18 +1,17 @@
 //! What a whole message is: at a caller the reply to a call, and at a service a request.
 ghost use Rattle.std.specs.Prelude.{◌≡◌, ◌&&◌, Some, IfOk, OnErr, OnOk, filter, is_some, not, option_map};
-ghost use Rattle.std.specs.List.{list_any, position};
+ghost use Rattle.std.specs.List.{list_any};
 ghost use Rattle.dt_messages.specs.Joining.{piece_with, whole_within, within};
 ghost use Rattle.dt_service_model.specs.CallBook.{counted_up, longest_message};
 ghost use Rattle.dt_service_model.specs.Names.{same_number, same_token};
-ghost use Rattle.dt_service_model.specs.Whole.{begun_of, grown, is_waiting_call, stray_counted, take_message, take_piece, take_reply, take_request, waits_anywhere, without_token};
+ghost use Rattle.dt_service_model.specs.Whole.{begun_of, grown, stray_counted, take_message, take_piece, take_reply, take_request, without_token};
 
 use crate::begun_messages::{joined, put_begun, take_begun};
 use crate::call_book::CallBook;
 use crate::counting::is_same;
-use crate::ends::end_at;
 use dt_items::NoMemory;
 use dt_messages::{Marks, read_message, reversed};
-use dt_service_model::{CallNumber, Happening, OpenCall, Payload, PortKind, Token};
+use dt_service_model::{CallNumber, Happening, Payload, PortKind, Token};
 use dt_units::Flow;
 use std::alloc::Global;
 
@@ -49,34 +48,6 @@ pub fn drop_token(token: &Token, tokens: &mut Vec<Token>)
     ensures { tokens.new.items ≡ without_token token.now tokens.old.items }
 {
     tokens.retain(|other| !same_token(token, other));
-}
-
-fn is_waiting_call(flow: &Flow, number: CallNumber, call: &OpenCall) -> bool
-    ensures { result ≡ is_waiting_call flow.now number call.now }
-{
-    call.waits && same_number(call.number, number) && is_same(&call.flow, flow)
-}
-
-/// Where the call of this number that waits on a flow stands.
-fn place_of(flow: &Flow, number: CallNumber, calls: &[OpenCall]) -> Option<usize>
-    ensures { result ≡ position (is_waiting_call flow.now number) calls.now }
-{
-    calls
-        .iter()
-        .position(|call| is_waiting_call(flow, number, call))
-}
-
-fn is_waiting_with(number: CallNumber, call: &OpenCall) -> bool
-    ensures { result ≡ (call.now.waits && same_number call.now.number number) }
-{
-    call.waits && same_number(call.number, number)
-}
-
-/// Whether a call of this number waits.
-fn waits_anywhere(number: CallNumber, calls: &[OpenCall]) -> bool
-    ensures { result ≡ waits_anywhere number calls.now }
-{
-    calls.iter().any(|call| is_waiting_with(number, call))
 }
 
 /// A message that isn't too long, and whether it was.
@@ -162,12 +133,9 @@ impl CallBook {
         ensures taken { OnOk result (self.new ≡ take_reply flow.now call answer self.old) }
         ensures same { OnErr result (self.new ≡ self.old) }
     {
-        let Some(place) = place_of(flow, call, &self.calls) else {
+        if !self.happenings.answer(&mut self.calls, flow, call, answer)? {
             self.count_stray(call);
-            return Ok(());
-        };
-        self.happenings.push(Happening::Answered { call, answer })?;
-        end_at(place, &mut self.calls);
+        }
         Ok(())
     }
 
@@ -177,7 +145,7 @@ impl CallBook {
     {
         if number.life != self.life {
             self.counts.old = counted_up(self.counts.old);
-        } else if u64::from(number.count) < self.count && !waits_anywhere(number, &self.calls) {
+        } else if u64::from(number.count) < self.count && !self.calls.waits_anywhere(number) {
             self.counts.late = counted_up(self.counts.late);
         } else {
             self.counts.strange = counted_up(self.counts.strange);

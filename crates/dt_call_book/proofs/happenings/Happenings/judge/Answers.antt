@@ -7,6 +7,6 @@ invariant_of-self-2 c =
     let hs = c.self.inside.queue.items in
     let after = c.judge.new.happenings.items in
     let told = c.in_ok-judge.ensures.told in (
-      c.self.invariant.0 ∙ sym (requests_judged c.args.now c.args.calls.now.items hs after told),
-      omega (arith, c.self.invariant.1, ends_judged c.args.now c.args.calls.now.items hs after told, c.len.ensures, c.len-before.ensures, c.self.inside.queue.ok, c.judge.new.happenings.ok),
+      c.self.invariant.0 ∙ sym (requests_judged c.args.now c.args.calls.now hs after told),
+      omega (arith, c.self.invariant.1, ends_judged c.args.now c.args.calls.now hs after told, c.len.ensures, c.len-before.ensures, c.self.inside.queue.ok, c.judge.new.happenings.ok),
     )
