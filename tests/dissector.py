@@ -23,7 +23,7 @@ from typing import Iterator
 ROOT = pathlib.Path(__file__).resolve().parent.parent
 sys.path.insert(0, str(ROOT / "tools"))
 import wire  # noqa: E402
-from lib import answer, heard  # noqa: E402
+import lib  # noqa: E402
 
 LUA = ROOT / "tools" / "wireshark" / "deltat.lua"
 WAY = wire.Flow(1, 10, 2, 20)
@@ -33,8 +33,8 @@ FIELDS = ["fault", "flow", "number", "size", "letters", "kind", "version", "prot
 
 def program_answers(program: str, frames: list[bytes]) -> list[list[str]]:
     """What the program tells of each frame. Each has a moment of its own."""
-    told = heard(program, 2, [(at + 1, frame) for at, frame in enumerate(frames)], routes=[1])
-    return [answer(told[at + 1]) for at in range(len(frames))]
+    told = lib.heard(program, 2, [(at + 1, frame) for at, frame in enumerate(frames)], routes=[1])
+    return [lib.answer(told[at + 1]) for at in range(len(frames))]
 
 
 def tshark(path: str, names: list[str], *options: str) -> list[list[str]]:

@@ -1,6 +1,6 @@
 #!/usr/bin/env python3
-"""The Python of this repository, by tools of Debian, each if it is there: no line is over 120 (pycodestyle, or a look
-at each line), nothing is imported or named in vain (pyflakes3), and what the checked folders call has the types that it
+"""The Python of this repository, by tools of Debian, each if it is there: no line is over
+120, nothing is imported or named in vain (pyflakes3), and what the checked folders call has the types that it
 says (mypy). `tests/lint.py [TOOL ..]` runs these only.
 
 Prints a line a tool. Ends with 1 where one finds something, with 77 where only the look at lines could be made.

@@ -86,7 +86,7 @@ SPOILT = [
 
 def check(top: Path) -> subprocess.CompletedProcess[str]:
     words = [sys.executable, str(top / "docs" / "check.py")]
-    return subprocess.run(words, capture_output=True, text=True, timeout=240)
+    return subprocess.run(words, capture_output=True, text=True, timeout=900)
 
 
 def is_refused(copy: Path, page: str, old: str, new: str) -> str:

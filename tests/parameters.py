@@ -19,7 +19,6 @@ import shlex
 import subprocess
 import sys
 import threading
-from pathlib import Path
 from random import Random
 
 from lib import HOST, PROGRAM, TOP, Between, start, tell

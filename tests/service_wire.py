@@ -477,7 +477,7 @@ class Run:
         still = [it for it in host.worker if it[0] in host.open]
         token, call = chance.choice(still if still and chance.random() < 0.7 else host.worker)
         payload = b"%d for " % next(self.words) + call.payload[:8]
-        is_open, track = host.open.get(token), self.wire.tracks[token.flow.reversed()]
+        is_open = host.open.get(token)
         send = host.station.send
 
         def sent(at: int, flow: Flow, octets: bytes) -> tuple[object, ...]:

@@ -311,11 +311,16 @@ def with_nodes(top: pathlib.Path) -> list[tuple[str, bool]]:
 
 def unwritable(top: pathlib.Path) -> list[tuple[str, bool]]:
     """A disk on which nothing can be written any more."""
-    begun = f"""import os, resource, signal, sys, time; sys.path.insert(0, {str(TOP / 'bindings' / 'python')!r}); import deltat
+    begun = f"""import os, resource, signal, sys, time
+sys.path.insert(0, {str(TOP / 'bindings' / 'python')!r})
+import deltat
 def full(): signal.signal(signal.SIGXFSZ, signal.SIG_IGN); resource.setrlimit(resource.RLIMIT_FSIZE, (0, 0))
 params, folder = deltat.{PARAMS!r}, {str(top / 'full')!r}
 """
-    after = begun + """state = deltat.State(folder, 1, params); node = deltat.Node(1, params, [deltat.Link(1, 10)], {2: 1}, state=state); full(); time.sleep(0.01)
+    after = begun + """state = deltat.State(folder, 1, params)
+node = deltat.Node(1, params, [deltat.Link(1, 10)], {2: 1}, state=state)
+full()
+time.sleep(0.01)
 try: node.send(deltat.Flow(1, 1, 2, 1), b"x")
 except deltat.StateError as why: print(why, len(list(node.datagrams())), "frames")
 """

@@ -33,7 +33,8 @@ if not all((TOP / "lib" / it).exists() for it in ("libdeltat.so.2", "libdeltat-u
 sys.path.insert(0, str(TOP / "bindings" / "python"))
 
 import deltat  # noqa: E402
-from deltat import Cause, Declined, Gone, PortKind, Request, Start, Status, Token, Unsure, driver, service  # noqa: E402
+from deltat import Cause, Declined, Gone, PortKind, Request, Start, Status, Token, Unsure, driver  # noqa: E402
+from deltat import service as of_service  # noqa: E402
 
 PARAMS = deltat.Params(mpl=482, r=3000, a=5, rto=90, probe=180, seg=1442, cap=65536, rcap=65536, window=65536)
 CALLER, SERVICE, OTHER = 10, 20, 21
@@ -59,7 +60,7 @@ def opened(node: int, port: int | None = None, **more: object) -> driver.Udp:
 
 def begun(calls: driver.Calls, flow: deltat.Flow, payload: bytes, timeout: float) -> None:
     """Makes a call for whose end nobody waits. Raises why it wasn't made."""
-    end = service._End()
+    end = of_service._End()
     calls._desk.begin(calls.udp._driven, end, flow, payload, timeout)
     calls._desk.turn(calls.udp._driven, 0)
     if end.why:

@@ -22,7 +22,6 @@ from .errors import InvalidArgument, OutOfMemory, StateError, Stopped, UdpError
 from .hooked import Hooked, is_hooked
 from .state import State
 from .values import Flow, flow_to_c, in_range, params_of
-from .watch import Alarm
 
 if TYPE_CHECKING:
     from .node import AnyNode

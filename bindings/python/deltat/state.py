@@ -13,8 +13,8 @@ had. Only the program can keep both, and a program that is killed keeps nothing 
 
 That time is written ahead of time, so a program that is killed at any instruction leaves one that is late enough.
 docs/formats.md has the form of the files; the tools and `tools/run-node` keep the same ones.
-lib/udp/state.c of libdeltat-udp keeps it, for this class and for `deltat.driver`. It is tested (`tests/state.py`), and not
-proved."""
+lib/udp/state.c of libdeltat-udp keeps it, for this class and for `deltat.driver`. It is tested (`tests/state.py`), and
+not proved."""
 
 from __future__ import annotations
 
