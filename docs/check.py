@@ -272,9 +272,11 @@ def functions() -> tuple[Function, ...]:
             owner = [owner for at, owner in owners if at < it.start()][-1:] if it["indent"] else []
             name = f"{owner[0][1]}::{it['name']}" if owner else it["name"]
             clauses = list(contract(text, it.end("name")))
-            of_kind = [tuple(name for kind, name in clauses if kind == which) for which in ("requires", "ensures")]
+            requires, ensures = (
+                tuple(name for kind, name in clauses if kind == which) for which in ("requires", "ensures")
+            )
             is_pub = it["pub"] == "pub " or bool(owner) and owner[0][0].startswith("pub trait")
-            found.append(Function(crate, path.stem, name, *of_kind, first_sentence(it["doc"]), is_pub))
+            found.append(Function(crate, path.stem, name, requires, ensures, first_sentence(it["doc"]), is_pub))
     return tuple(found)
 
 
@@ -632,7 +634,8 @@ def check_edits() -> Iterator[Complaint]:
         if edit.name != PLANTED.name:
             yield Complaint(edit, 1, f"a crate's bugs stand in {PLANTED}")
         yield from check_turned_off(edit)
-        path, made, names = edit, {}, set()
+        made: dict[Path, str] = {}
+        path, names = edit, set[str]()
         olds = 0
         for number, line in enumerate(edit.read_text().splitlines(), 1):
             key, _, words = line.partition(": ")
@@ -715,10 +718,11 @@ def words_of(column: int) -> dict[str, int]:
 def names_in_c() -> set[str]:
     """Functions, types, enums and constants of the header. What an enum has follows from its name."""
     it = interface.header()
-    parts = (it.functions, it.structs, it.enums, it.constants)
+    named = {one.name for one in it.functions} | {one.name for one in it.structs} | {one.name for one in it.enums}
+    named |= {one.name for one in it.constants}
     # (results are those of their functions, and need no word)
     macros = re.findall(r"#define (DT_\w+)\(", text_of(interface.HEADER))
-    return {one.name for part in parts for one in part} | {*it.opaque, *macros}
+    return {*named, *it.opaque, *macros}
 
 
 def names_in_python() -> set[str]:
