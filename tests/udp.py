@@ -163,14 +163,15 @@ class Relay(threading.Thread):
 
     def rebind(self) -> None:
         """From now on what is passed on comes from another port, as behind a NAT that forgot the client."""
-        old, self.far = self.far, socket.socket(socket.AF_INET, socket.SOCK_DGRAM)
-        self.far.bind((HOST, 0))
+        other = socket.socket(socket.AF_INET, socket.SOCK_DGRAM)
+        other.bind((HOST, 0))
+        self.far = other
         time.sleep(0.1)
-        old.close()
 
     def run(self) -> None:
         while not self.over:
-            for it in select.select([self.near, self.far], [], [], 0.05)[0]:
+            far = self.far
+            for it in select.select([self.near, far], [], [], 0.05)[0]:
                 octets, source = it.recvfrom(65536)
                 if it is self.near:
                     self.client = source
@@ -182,6 +183,8 @@ class Relay(threading.Thread):
                     self.far.sendto(octets, (HOST, self.target))
                 elif self.client:
                     self.near.sendto(octets, self.client)
+            if far is not self.far:
+                far.close()  # (nobody else does, as long as this thread may wait for it)
 
 
 def wants(truth: bool, what: str) -> None:
