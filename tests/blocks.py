@@ -153,7 +153,7 @@ class World:
         self.door(name).unlink(missing_ok=True)
 
     def wrote(self, octets: int, job: "subprocess.Popen[str] | subprocess.Popen[bytes]") -> None:
-        """Waits until so many octets more of the disk were written for the first time, or the job that does it ended."""
+        """Waits until so many octets more of the disk were written for the first time, or the job ended."""
         until, wanted = time.monotonic() + 60, self.disk.stat().st_blocks * 512 + octets
         while self.disk.stat().st_blocks * 512 < wanted and job.poll() is None:
             if time.monotonic() > until:

@@ -338,7 +338,7 @@ def picture(both: list[Seen], moments: dict[str, float]) -> str:
         'font-family="sans-serif" font-size="11">',
         "<style>.title{font-size:14px;font-weight:bold}.end{text-anchor:end}.mark{stroke:#000;stroke-dasharray:3 2}"
         ".stale{fill:#c8102e;font-weight:bold;paint-order:stroke;stroke:#fff;stroke-width:3px}</style>",
-        f'<rect width="100%" height="100%" fill="#ffffff"/>',
+        '<rect width="100%" height="100%" fill="#ffffff"/>',
     ]
     legend = [(COLOURS[FIRST], "as it was"), (COLOURS[NEW], "new"), ("#c8102e", "old of the dead client, over new")]
     for i, (colour, word) in enumerate(legend):
