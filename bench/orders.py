@@ -23,8 +23,8 @@ from deltat import orders  # noqa: E402
 
 BODY = b"transfer 3 5 20"
 HOST, CLIENT, SERVER = "127.0.0.1", 4_911, 4_912
-# a server without requests ends after so many seconds
-IDLE = 3.0
+# how often the server looks whether the client has ended, in seconds
+LOOK = 0.5
 
 
 class Counted(orders.Log):
@@ -128,7 +128,9 @@ def serve(folder: pathlib.Path) -> None:
     serves = node(folder, 2, 20, deltat.PortKind.SERVICE)
     with deltat.Udp(serves, (HOST, SERVER), {1: (HOST, CLIENT)}) as udp:
         (folder / "ready").touch()
-        bank.run(deltat.Calls(udp), 20, IDLE)
+        calls = deltat.Calls(udp)
+        while not (folder / "end").exists():
+            bank.run(calls, 20, LOOK)
     ((count,),) = bank.database.run("SELECT count(*) FROM effects")
     assert isinstance(bank.database, CountedDatabase)
     (folder / "served").write_text(f"{count} {bank.database.commits}")
@@ -160,7 +162,8 @@ def two_processes(folder: pathlib.Path, seconds: float, lanes: int) -> str:
         while not (folder / "ready").exists() and server.poll() is None:
             time.sleep(0.01)
         count, took, client = asyncio.run(over_calls(folder, seconds, lanes))
-        server.wait(IDLE + 30)
+        (folder / "end").touch()
+        server.wait(30)
     finally:
         server.kill()
         server.wait()

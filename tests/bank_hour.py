@@ -8,7 +8,8 @@ books are compared with the notes of all clients since the first round. Ends wit
 
 - an order was booked twice, told otherwise than it is booked, not found out, or given by nobody;
 - the sum of the accounts isn't what it was, or a client was told another one;
-- an answered order that a set back took isn't told to its client, or one is told that the bank has;
+- an answered order that a set back took isn't told to its client, or one is told that the bank has, though it was
+  called once;
 - nothing happened in the whole time: no order, no kill of a client or of the bank, or no order that a set back took.
 
 It runs for S seconds (60), at least one set back included, and then until the clients have their fates: an hour by

@@ -140,6 +140,8 @@ class Notes:
         self.orders: dict[str, str] = {}
         self.fates: dict[str, str] = {}
         self.undone: set[str] = set()
+        # orders that a later life called again
+        self.again: set[str] = set()
         # the moments at which orders were written down, and at which their fates were
         self.given: dict[str, int] = {}
         self.known: dict[str, int] = {}
@@ -159,6 +161,8 @@ class Notes:
                 self.fates[name] = rest
             case "undone":
                 self.undone.add(name)
+            case "again":
+                self.again.add(name)
             case "given":
                 self.given[name] = int(rest)
             case "known":

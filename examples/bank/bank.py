@@ -139,6 +139,7 @@ class OrderingClient(Client):
         for order, fate in self.given.untaken():
             self.ended(order, fate)
         for order in self.given.unsettled:
+            self.notes.note(f"again {order.body.decode().split()[0]}")
             self.settle(order, moment())
 
     def give(self, body: str) -> None:

@@ -27,7 +27,8 @@ flow or a connection of its own for each, and how long one transaction takes to 
 With --set-back it runs twice, by orders and by keys, and beside all this the bank's disk is copied after a quarter of
 the time, and after three quarters the copy takes its place, as after a restore from a backup: with the usual 120 s it
 is a copy of a minute ago. By orders each client is told which of its orders are gone. Ends with 0 if these are exactly
-the ones that are gone, and by keys some are gone too, of which nobody is told."""
+the ones that are gone, and by keys some are gone too, of which nobody is told. (Of an order that was called more than
+once only the answer may be gone: the client is told of it too, and the table counts it by itself.)"""
 import argparse
 import asyncio
 import heapq
@@ -205,6 +206,8 @@ def outcome(folder: pathlib.Path) -> dict[str, Cell]:
     undone = {order for it in notes for order in it.undone}
     known = {order: fate for order, fate in fates.items() if fate and fate != "unknown"}
     gone = {order for order in known if order not in executed}
+    # those whose answer may be of a later commit than their execution: a set back may take the one and not the other
+    late = {order for it in notes for order in it.again | it.doubts.keys()} & undone & executed.keys()
     sums = [told for it in notes for told in it.sums]
     return {
         "orders": len(fates),
@@ -212,14 +215,15 @@ def outcome(folder: pathlib.Path) -> dict[str, Cell]:
         "booked more than once": sum(it > 1 for it in booked.values()),
         "times an order was unsure": sum(it.doubts.total() for it in notes),
         "told otherwise than it is booked": sum(
-            (fate == "booked" and order not in undone) != (order in booked) for order, fate in known.items()
+            (fate == "booked" and order not in undone - late) != (order in booked) for order, fate in known.items()
         ),
         "told as unknown": sum(fate == "unknown" for fate in fates.values()),
         "not found out": sum(not fate for fate in fates.values()),
         "booked, and given by nobody": sum(it not in fates for it in booked),
         GONE: len(gone),
         TOLD: len(gone & undone),
-        "told as gone, and the bank has it": sum(it in executed for it in undone),
+        "told as gone, and the bank has it": sum(it in executed for it in undone - late),
+        "so, but answered by a later call": len(late),
         "kills of clients": len(kills(folder, "clients")),
         "kills of the bank": len(kills(folder, "bank")),
         "the sum, less what it was": balances(folder / "bank.db") - ACCOUNTS * START,

@@ -1,4 +1,5 @@
 """deltat.orders over a wire that loses, repeats and holds back, and stores that die at any write; and its log."""
+import functools
 import logging
 import os
 import pathlib
@@ -6,10 +7,12 @@ import random
 import sqlite3
 import tempfile
 from collections.abc import Callable, Sequence
+from typing import TypeVar
 
 from deltat import Unsure, orders
 from deltat._c import Cause
 
+Found = TypeVar("Found")
 SEEDS = 60
 CLIENT = 7
 
@@ -134,15 +137,15 @@ class World:
             self.store.dies = 0.05
             given += [(order.body, fate) for order, fate in client.untaken()]
             for order in client.unsettled:
-                given.append((order.body, self.alarmed(client, lambda it=order: client.settle(it))))
+                given.append((order.body, self.alarmed(client, functools.partial(client.settle, order))))
             while client._book.state.last_uid < count:
                 body = b"order %d" % client._book.state.last_uid
                 if self.sets_back and self.chance.random() < 0.2:
                     self.copy()
-                order = self.alarmed(client, lambda it=body: client.note(it))
-                given.append((order.body, self.alarmed(client, lambda it=order: client.settle(it))))
+                order = self.alarmed(client, functools.partial(client.note, body))
+                given.append((order.body, self.alarmed(client, functools.partial(client.settle, order))))
 
-    def alarmed(self, client: orders.Orders, does: Callable[[], object]) -> object:
+    def alarmed(self, client: orders.Orders, does: Callable[[], Found]) -> Found:
         while True:
             try:
                 return does()

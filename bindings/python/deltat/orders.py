@@ -133,8 +133,10 @@ class Order:
 
 
 class SetBack(DeltatError):
-    """The server's store was set back: it lost commits that this client heard of. `undone`: the orders that were `Done`
-    and are so no more, in the order in which they were given. Nothing is called until `adopt`."""
+    """The server's store was set back: it lost commits that this client heard of. `undone`: the orders whose answers
+    `Done` are of lost commits, in the order in which they were given. Each order that is undone is among them. One that
+    was called more than once may be there and not be undone, if it was executed before what was lost and its answer
+    came after. Nothing is called until `adopt`."""
 
     def __init__(self, undone: list[Order]) -> None:
         super().__init__(f"the server's store was set back: {len(undone)} orders that were done are undone; adopt it")
