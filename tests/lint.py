@@ -26,7 +26,6 @@ TYPED = [
     "docs/headline.py",
     "docs/laws.py",
     "docs/rooms.py",
-    "docs/check.py",
 ]
 
 
@@ -63,7 +62,7 @@ def lines(paths: list[pathlib.Path]) -> list[str]:
 
 def ran(words: list[str]) -> list[str]:
     """What a tool wrote, if it found something."""
-    environment = {**os.environ, "MYPYPATH": f"{TOP / 'tests'}:{TOP / 'docs'}:{TOP / 'tools'}:{TOP / 'release'}"}
+    environment = {**os.environ, "MYPYPATH": f"{TOP / 'tests'}:{TOP / 'docs'}:{TOP / 'tools'}"}
     it = subprocess.run(words, cwd=TOP, capture_output=True, text=True, check=False, env=environment)
     return (it.stdout + it.stderr).splitlines() if it.returncode else []
 
