@@ -26,7 +26,6 @@ TYPED = [
     "docs/headline.py",
     "docs/laws.py",
     "docs/rooms.py",
-    "docs/check.py",
 ]
 
 
