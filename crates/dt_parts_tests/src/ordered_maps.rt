@@ -22,10 +22,13 @@ fn place_of(list: &[(u16, u64)], key: u16) -> Option<usize> {
 /// What was under a key goes, or else an entry comes; whether the map answered as the list has it.
 fn turns(pair: &mut Pair, key: u16, value: u64) -> Result<bool, NoMemory> {
     if let Some(place) = place_of(&pair.list, key) {
+        if place >= pair.list.len() {
+            return Ok(false);
+        }
         let (_, had) = pair.list.remove(place);
         return Ok(pair.map.contains(&key) && pair.map.remove(&key) == Some(had));
     }
-    if pair.map.contains(&key) || pair.map.remove(&key).is_some() {
+    if pair.map.remove(&key).is_some() || pair.map.contains(&key) {
         return Ok(false);
     }
     pair.map.push(key, value)?;
