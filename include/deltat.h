@@ -596,7 +596,7 @@ dt_status dt_node_get_flow_counts(dt_node *node, const struct dt_flow *flow,
  * Each function here that takes `now` reads what arrived, hands out requests, and ends calls that
  * were answered, given up or timed out; all but dt_service_forget first do what is due at `now`. An
  * argument or a datagram that is refused does none of this.
- * Cost: a look at each 64 calls that wait, and at each request that is open.
+ * Cost: a look at each 64 calls that wait, and at each flow that is unread.
  *
  *   for (empty_at = now();;) {
  *       wait_for_datagram(dt_service_wake(service));
