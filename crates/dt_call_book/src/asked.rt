@@ -1,6 +1,5 @@
 //! What is asked of a call book.
-ghost use Rattle.std.specs.Prelude.{◌≡◌, ◌<◌, ◌≤◌, ◌^◌, MatchOption, OnErr, OnOk, filter, nat_lt, not};
-ghost use Rattle.dt_world_model.specs.Tables.{same_flow};
+ghost use Rattle.std.specs.Prelude.{◌≡◌, ◌<◌, ◌≤◌, ◌^◌, IfOk, MatchOption, OnErr, OnOk, nat_lt, not};
 ghost use Rattle.dt_service_model.specs.Asked.{forgotten, is_life_in_use, next_number, raised, with_call};
 ghost use Rattle.dt_service_model.specs.Carrying.{carried_by, next_size};
 ghost use Rattle.dt_service_model.specs.Ends.{next};
@@ -9,18 +8,10 @@ ghost use Rattle.dt_service_model.specs.Turns.{done_with};
 ghost use Rattle.dt_service_model.specs.Whole.{is_open};
 
 use crate::call_book::CallBook;
-use crate::counting::is_same;
-use crate::whole::{drop_token, is_open};
 use dt_items::NoMemory;
 use dt_service_model::{CallCounts, CallNumber, Cause, Happening, OpenCall, Token};
 use dt_units::Flow;
-
-/// A flow is to be read no more.
-fn drop_flow(flow: &Flow, flows: &mut Vec<Flow>)
-    ensures { flows.new.items ≡ filter (λ g. not (same_flow g flow.now)) flows.old.items }
-{
-    flows.retain(|other| !is_same(other, flow));
-}
+use std::alloc::Global;
 
 /// What a happening carries: the payload of a request, or an answer.
 pub fn carried(happening: &Happening) -> &[u8]
@@ -82,14 +73,14 @@ impl CallBook {
     pub fn is_open(&self, token: &Token) -> bool
         ensures { result ≡ is_open token.now self.now }
     {
-        is_open(token, &self.tokens)
+        self.tokens.contains(token)
     }
 
     /// The token is open no more.
     pub fn forget(&mut self, token: &Token)
         ensures { self.new ≡ forgotten token.now self.old }
     {
-        drop_token(token, &mut self.tokens);
+        self.tokens.remove(token);
     }
 
     /// A life is raised, and calls are counted from 0 again. Nothing changes where it is the life of the
@@ -106,18 +97,19 @@ impl CallBook {
         true
     }
 
-    /// The flows at which something may be unread, in the order in which they came in.
-    pub fn unread(&self) -> &[Flow]
-        ensures { result.now ≡ self.now.unread }
+    /// The flows at which something may be unread, in the order in which they came in. The cost is that of
+    /// a copy.
+    pub fn unread(&self, alloc: Global) -> Result<Vec<Flow>, NoMemory>
+        ensures { IfOk result (λ flows. flows.items ≡ self.now.unread) }
     {
-        &self.unread
+        self.unread.to_vec(alloc)
     }
 
     /// Nothing of a flow is unread.
     pub fn done_with(&mut self, flow: &Flow)
         ensures { self.new ≡ done_with flow.now self.old }
     {
-        drop_flow(flow, &mut self.unread);
+        self.unread.remove(flow);
     }
 
     /// What was reported first of all that wasn't taken. It is taken with this. Once all is, a closed node

@@ -6,7 +6,6 @@ mod asked;
 mod begun_messages;
 mod call_book;
 mod closing;
-mod counting;
 mod happenings;
 mod numbers;
 mod ports;

@@ -10,7 +10,6 @@ ghost use Rattle.dt_world_model.specs.Tables.{earliest};
 
 use crate::begun_messages::keep_received;
 use crate::call_book::CallBook;
-use crate::counting::{has_flow, tokens_of};
 use crate::uncertain::tell_given_up;
 use dt_endpoint::Endpoint;
 use dt_items::NoMemory;
@@ -61,7 +60,7 @@ impl CallBook {
         ensures heard { OnOk result (self.new ≡ hear_as (Accepts flow) self.old) }
         ensures same { OnErr result (self.new ≡ self.old) }
     {
-        if self.kind(flow.to_port).is_some() && !has_flow(&self.unread, &flow) {
+        if self.kind(flow.to_port).is_some() && !self.unread.contains(&flow) {
             self.unread.push(flow)?;
         }
         Ok(())
@@ -83,7 +82,7 @@ impl CallBook {
         ensures { result ≡ has_room flow.now self.now }
     {
         self.tokens.len() < self.most.requests as usize
-            && tokens_of(&self.tokens, flow) < self.most.of_a_flow as usize
+            && self.tokens.of(flow) < self.most.of_a_flow as usize
             && self.happenings.requests() < self.most.requests as usize
     }
 

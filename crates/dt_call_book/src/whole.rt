@@ -1,14 +1,11 @@
 //! What a whole message is: at a caller the reply to a call, and at a service a request.
-ghost use Rattle.std.specs.Prelude.{◌≡◌, ◌&&◌, Some, IfOk, OnErr, OnOk, filter, is_some, not, option_map};
-ghost use Rattle.std.specs.List.{list_any};
+ghost use Rattle.std.specs.Prelude.{◌≡◌, ◌&&◌, Some, IfOk, OnErr, OnOk, is_some, not, option_map};
 ghost use Rattle.dt_messages.specs.Joining.{piece_with, whole_within, within};
 ghost use Rattle.dt_service_model.specs.CallBook.{counted_up, longest_message};
-ghost use Rattle.dt_service_model.specs.Names.{same_number, same_token};
-ghost use Rattle.dt_service_model.specs.Whole.{begun_of, grown, stray_counted, take_message, take_piece, take_reply, take_request, without_token};
+ghost use Rattle.dt_service_model.specs.Whole.{begun_of, grown, stray_counted, take_message, take_piece, take_reply, take_request};
 
 use crate::begun_messages::{joined, put_begun, take_begun};
 use crate::call_book::CallBook;
-use crate::counting::is_same;
 use dt_items::NoMemory;
 use dt_messages::{Marks, read_message, reversed};
 use dt_service_model::{CallNumber, Happening, Payload, PortKind, Token};
@@ -22,32 +19,6 @@ fn counted_up(count: u64) -> u64
     ensures { result ≡ counted_up count }
 {
     count.saturating_add(1)
-}
-
-fn same_number(one: CallNumber, other: CallNumber) -> bool
-    ensures { result ≡ same_number one other }
-{
-    one.life == other.life && one.count == other.count
-}
-
-fn same_token(one: &Token, other: &Token) -> bool
-    ensures { result ≡ same_token one.now other.now }
-{
-    is_same(&one.flow, &other.flow) && same_number(one.number, other.number)
-}
-
-/// Whether the name is among these.
-pub fn is_open(token: &Token, tokens: &[Token]) -> bool
-    ensures { result ≡ list_any (same_token token.now) tokens.now }
-{
-    tokens.iter().any(|other| same_token(token, other))
-}
-
-/// The name is among these no more.
-pub fn drop_token(token: &Token, tokens: &mut Vec<Token>)
-    ensures { tokens.new.items ≡ without_token token.now tokens.old.items }
-{
-    tokens.retain(|other| !same_token(token, other));
 }
 
 /// A message that isn't too long, and whether it was.
@@ -157,14 +128,16 @@ impl CallBook {
         ensures taken { OnOk result (self.new ≡ take_request token payload self.old) }
         ensures same { OnErr result (self.new ≡ self.old) }
     {
-        if is_open(&token, &self.tokens) {
-            drop_token(&token, &mut self.tokens);
+        if self.tokens.contains(&token) {
+            self.tokens.remove(&token);
             self.counts.reused = counted_up(self.counts.reused);
             return Ok(());
         }
-        self.tokens.reserve(1)?;
-        self.happenings.push(Happening::Request { token, payload })?;
-        self.tokens.push_reserved(token);
+        self.tokens.push(token)?;
+        if let Err(no_memory) = self.happenings.push(Happening::Request { token, payload }) {
+            self.tokens.remove(&token);
+            return Err(no_memory);
+        }
         Ok(())
     }
 }

@@ -95,7 +95,7 @@ fn asks(server: &mut CallBook) -> bool {
 }
 
 // Whether the port is new, and the flow of octets that were accepted is unread.
-fn hears(server: &mut CallBook) -> Result<bool, NoMemory> {
+fn hears(alloc: Global, server: &mut CallBook) -> Result<bool, NoMemory> {
     let is_new = server.set_kind(20, PortKind::Service)?;
     let accepted = Report::Accepted {
         flow: FLOW,
@@ -104,11 +104,11 @@ fn hears(server: &mut CallBook) -> Result<bool, NoMemory> {
         run: true,
     };
     server.hear(&accepted)?;
-    Ok(is_new && server.unread() == [FLOW].as_slice())
+    Ok(is_new && server.unread(alloc)?.as_slice() == [FLOW].as_slice())
 }
 
 fn serves(alloc: Global, server: &mut CallBook) -> Result<bool, NoMemory> {
-    let is_heard = hears(server)?;
+    let is_heard = hears(alloc, server)?;
     comes(alloc, server, FLOW, b"a")?;
     Ok(is_heard && asks(server))
 }
@@ -127,7 +127,7 @@ fn is_answered(
 
 // The same of a server that begins.
 fn is_served(alloc: Global, client: &mut CallBook) -> Result<bool, NoMemory> {
-    let mut server = CallBook::new(alloc, MOST, 1);
+    let mut server = CallBook::new(alloc, MOST, 1)?;
     is_answered(alloc, client, &mut server)
 }
 
@@ -171,7 +171,7 @@ enum End {
 
 // Whether the call of a client that begins ends so.
 fn ends(alloc: Global, end: End) -> Result<bool, NoMemory> {
-    let mut client = CallBook::new(alloc, MOST, 5);
+    let mut client = CallBook::new(alloc, MOST, 5)?;
     match end {
         End::Answered => is_served(alloc, &mut client),
         End::Patience => runs_out(&mut client),

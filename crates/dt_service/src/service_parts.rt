@@ -93,7 +93,7 @@ impl ServiceParts {
         ensures read { OnOk result (node_in self.new ≡ reads now (node_in self.old)) }
         ensures stops { OnErr result (EndStops now (node_in self.old) (node_in self.new)) }
     {
-        let flows = Vec::from_slice(self.alloc, self.book.unread())?;
+        let flows = self.book.unread(self.alloc)?;
         for flow in &flows {
             self.read_flow(now, flow)?;
         }

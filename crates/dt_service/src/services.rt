@@ -75,7 +75,7 @@ impl Service {
         let parts = ServiceParts {
             alloc,
             endpoint,
-            book: CallBook::new(alloc, start.most, start.life),
+            book: CallBook::new(alloc, start.most, start.life)?,
             message: Vec::new(alloc),
             room,
         };

@@ -18,4 +18,4 @@ pub returns-in_err-read_flow-clause-stops : goal.returns-in_err-read_flow-clause
 returns-in_err-read_flow-clause-stops c =
     let n = node_in c.args.self.now in let m = node_in c.loop-flow.self in let k = node_in c.read_flow.new.self in
     on_err c.from_residual-in_err-read_flow.result (EndStops c.args.now n k)
-    (flows_stop c.args.now c.loop-flow.flow-index c.deref-flow-items.result.now _ n m k c.loop-flow-test.true (c.deref-flow-items.ensures.value ∙ c.in_ok-flows.ensures.items ∙ c.unread.ensures) c.loop-flow.invariant.done c.in_err-read_flow.ensures.stops)
+    (flows_stop c.args.now c.loop-flow.flow-index c.deref-flow-items.result.now _ n m k c.loop-flow-test.true (c.deref-flow-items.ensures.value ∙ c.in_ok-flows.ensures) c.loop-flow.invariant.done c.in_err-read_flow.ensures.stops)
